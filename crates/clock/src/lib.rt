@@ -1,0 +1,6 @@
+// Alarms on a hardware counter that wraps: the interfaces, the devices, and the appointment that they share.
+pub mod alarm;
+pub mod appointment;
+pub mod up;
+pub mod wait;
+mod wrap;
