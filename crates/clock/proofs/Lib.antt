@@ -1,3 +1,4 @@
 pub mod Wrapping
 pub mod Waiting
 pub mod Setting
+pub mod UpCounters

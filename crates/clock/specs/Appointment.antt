@@ -17,11 +17,21 @@ use Rattle.clock.specs.declared.appointment.Reply.{Reply}
 use Rattle.clock.specs.declared.appointment.Reply.the-variants.{Kept, Refused, Stopped, Claimed}
 use Rattle.clock.specs.Wrap.{plus, minus}
 
+-- the number that an appointment holds, ticks or a point, and 0 where it is idle
+abbrev pub held : Appointment → ℕ
+held Idle = 0
+held (Standing left) = left
+held (Due point) = point
+
+-- the ticks left, and 1 where none are counted
+abbrev pub left-in : Appointment → ℕ
+left-in Idle = 1
+left-in (Standing left) = left
+left-in (Due point) = 1
+
 -- what is left is at least one tick, and like a point of a clock of width w it lies below 2^w
 abbrev pub Sound : ℕ → Appointment → Type 0
-Sound w Idle = Unit {0}
-Sound w (Standing left) = (1 ≤ left) × (left < 2 ^ w)
-Sound w (Due point) = point < 2 ^ w
+Sound w a = (1 ≤ left-in a) × (held a < 2 ^ w)
 
 -- the appointment and the numbers of an event are those of a clock of the event's width
 abbrev pub Possible : Appointment → Event → Type 0

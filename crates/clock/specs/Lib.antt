@@ -4,4 +4,5 @@ pub mod Meaning
 pub mod Appointment
 pub mod Hold
 pub mod Calls
+pub mod Making
 pub mod Up

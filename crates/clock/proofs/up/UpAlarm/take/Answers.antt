@@ -1,0 +1,11 @@
+use mathlib.Core.Path.{_≡_, refl, _∙_}
+use native.Mathlib.Omega.{arith}
+use borrow.Author.Needs.{needs}
+use Rattle.clock.proofs.UpCounters.{up-accepted}
+use Rattle.clock.proofs.up.UpAlarm.take.Needs as need
+
+pub returns : need.returns
+returns c =
+    let s = c .args .self .now in
+    up-accepted (s .width) (s .last) (s .tag) (c .args .sample .0) (c .difference-gained .result) (s .appointment) (c .take .last .self)
+    (s .fits) (search needs) (search needs) (search needs)
