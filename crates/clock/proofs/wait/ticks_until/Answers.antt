@@ -32,7 +32,7 @@ returns-in-Ok g c =
     let some : 0 < c .args .left = omega arith in
     let answer : c .hold-wait .result ≡ wait-for m (c .args .left) =
     held m _ _ _ _ _ _ _ (c .args .left) law (c .stop .ensures) (c .reading-reading .ensures) (c .hold-wait .result)
-      (at (c .hold-wait .last .self)) (is (c .hold-wait .last .self)) some (c .in-Ok .ensures tt) (c .hold-wait .ensures) in
+    (at (c .hold-wait .last .self)) (is (c .hold-wait .last .self)) some (c .in-Ok .ensures tt) (c .hold-wait .ensures) in
     record {
       answer = answer;
       least = lawful-wait m (c .args .left) (c .hold-wait .result) answer;
