@@ -1,0 +1,2 @@
+-- Books and queues over lent rows.
+pub mod Book
