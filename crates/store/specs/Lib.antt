@@ -1,2 +1,5 @@
 -- Books and queues over lent rows.
 pub mod Book
+pub mod Order
+pub mod Queue
+pub mod Row

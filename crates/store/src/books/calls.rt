@@ -1,11 +1,14 @@
 // The calls of a book.
 ghost use mathlib.Core.Path.{_≡_};
 ghost use mathlib.Core.List.{[]};
+ghost use Prim.Native.Nat.{_+_, _<_};
 ghost use lib.ListN.{length, set};
+ghost use lib.Dec.{leb};
 ghost use denote.Ref.{name};
 ghost use Rattle.std.specs.Finite.{nth};
 ghost use Rattle.store.specs.Book.{kept, places, filled, add-answer, kept-after, filled-after};
 use super::Book;
+use crate::rows::at;
 use fault::Cause;
 use fault::Fault;
 
@@ -44,7 +47,24 @@ impl<'a, T: Copy> Book<'a, T> {
     pub fn entry(&self, i: usize) -> Option<T>
         ensures { λ r. ⌜ r ≡ nth (kept (now (self .entry))) i ⌝ }
     {
-        self.records().get(i).copied()
+        at(self.records(), i)
+    }
+
+    fn is_full(&self) -> bool
+        ensures { λ r. ⌜ r ≡ leb (length (places (now (self .entry)))) (filled (now (self .entry))) ⌝ }
+    {
+        self.count >= self.capacity()
+    }
+
+    // Writes the record into the first free place.
+    fn put(&mut self, record: T)
+        requires { ⌜ filled (now self) < length (places (now self)) ⌝ }
+        ensures count { λ _. ⌜ filled (now (self .exit)) ≡ filled (now (self .entry)) + 1 ⌝ }
+        ensures places { λ _. ⌜ places (now (self .exit)) ≡ set (places (now (self .entry))) (filled (now (self .entry))) «record» ⌝ }
+        ensures lender { λ _. ⌜ name (now (self .exit) .row) ≡ name (now (self .entry) .row) ⌝ }
+    {
+        self.row[self.count] = record;
+        self.count += 1;
     }
 
     // Puts the record after those already there; refused exactly when the row is full.
@@ -55,12 +75,10 @@ impl<'a, T: Copy> Book<'a, T> {
         ensures places { λ _. ⌜ places (now (self .exit)) ≡ set (places (now (self .entry))) (filled (now (self .entry))) «record» ⌝ }
         ensures lender { λ _. ⌜ name (now (self .exit) .row) ≡ name (now (self .entry) .row) ⌝ }
     {
-        let length = self.capacity();
-        if self.count >= length {
-            return Err(Fault::in_book(Cause::NoPlace, length));
+        if self.is_full() {
+            return Err(Fault::in_book(Cause::NoPlace, self.capacity()));
         }
-        self.row[self.count] = record;
-        self.count += 1;
+        self.put(record);
         Ok(())
     }
 }
