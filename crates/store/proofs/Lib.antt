@@ -1,4 +1,6 @@
 -- Lemmas that several proofs share.
+pub mod Drained
+pub mod DueOrder
 pub mod Kept
 pub mod Lookups
 pub mod Moves

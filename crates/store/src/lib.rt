@@ -1,12 +1,20 @@
 // What records are kept in, over rows that the caller lends: a book and a queue.
 mod books;
+mod dues;
 mod queues;
 mod records;
 mod rows;
+mod sorting;
 #[cfg(test)]
 mod tests;
 
 pub use books::Book;
+pub use dues::Due;
+pub use dues::DueDebug;
+pub use dues::DueEq;
+pub use dues::DueOrd;
+pub use dues::DuePartialEq;
+pub use dues::DuePartialOrd;
 pub use queues::Queue;
 pub use records::Firing;
 pub use records::FiringDebug;
@@ -16,3 +24,4 @@ pub use records::Reading;
 pub use records::ReadingDebug;
 pub use records::ReadingEq;
 pub use records::ReadingPartialEq;
+pub use sorting::in_order;
