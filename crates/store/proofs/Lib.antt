@@ -7,3 +7,4 @@ pub mod Moves
 pub mod Ordered
 pub mod Placed
 pub mod Queued
+pub mod Sorted

@@ -34,12 +34,19 @@ pub impl PartialOrd<Due> for Due as DuePartialOrd {
 }
 
 impl Due {
-    // Whether this one comes first. The order is total, and ties are the same record.
+    // Whether this one comes before the other.
     pub fn is_before(&self, other: &Due) -> bool
-        ensures answer { λ r. ⌜ Decides r (Earlier (now (self .entry)) (now (other .entry))) ⌝ }
-        ensures total { λ _. ⌜ Total due-orders ⌝ }
-        ensures strict { λ _. ⌜ Strict due-order ⌝ }
+        ensures { λ r. ⌜ Decides r (Earlier (now (self .entry)) (now (other .entry))) ⌝ }
     {
         self.cmp(other).is_lt()
     }
+}
+
+// What a queue of due records rests on: their order is total, and ties are the same record.
+pub fn order_is_total() -> bool
+    ensures answer { λ r. ⌜ r ≡ true ⌝ }
+    ensures total { λ _. ⌜ Total due-orders ⌝ }
+    ensures strict { λ _. ⌜ Strict due-order ⌝ }
+{
+    true
 }
