@@ -2,3 +2,4 @@ pub mod Wrapping
 pub mod Waiting
 pub mod Setting
 pub mod UpCounters
+pub mod DownCounters

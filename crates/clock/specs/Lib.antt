@@ -6,3 +6,4 @@ pub mod Hold
 pub mod Calls
 pub mod Making
 pub mod Up
+pub mod Down

@@ -1,6 +1,7 @@
 // Alarms on a hardware counter that wraps: the interfaces, the devices, and the appointment that they share.
 pub mod alarm;
 pub mod appointment;
+pub mod down;
 pub mod up;
 pub mod wait;
 mod wrap;
