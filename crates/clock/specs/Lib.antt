@@ -7,3 +7,4 @@ pub mod Calls
 pub mod Making
 pub mod Up
 pub mod Down
+pub mod Settings

@@ -2,6 +2,7 @@
 pub mod alarm;
 pub mod appointment;
 pub mod down;
+pub mod settings;
 pub mod up;
 pub mod wait;
 mod wrap;
