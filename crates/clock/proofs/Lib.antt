@@ -3,3 +3,5 @@ pub mod Waiting
 pub mod Setting
 pub mod UpCounters
 pub mod DownCounters
+pub mod Keeping
+pub mod Widened

@@ -8,3 +8,5 @@ pub mod Making
 pub mod Up
 pub mod Down
 pub mod Settings
+pub mod Kept
+pub mod Widening

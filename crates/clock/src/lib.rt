@@ -2,7 +2,9 @@
 pub mod alarm;
 pub mod appointment;
 pub mod down;
+mod kept;
 pub mod settings;
 pub mod up;
 pub mod wait;
+pub mod widening;
 mod wrap;
