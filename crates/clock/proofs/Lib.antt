@@ -5,3 +5,4 @@ pub mod UpCounters
 pub mod DownCounters
 pub mod Keeping
 pub mod Widened
+pub mod Rated

@@ -10,3 +10,4 @@ pub mod Down
 pub mod Settings
 pub mod Kept
 pub mod Widening
+pub mod Rate
