@@ -1,40 +1,32 @@
 -- The down-counter keeps the laws of a clock, and moves as a clock moves. Assumes nothing.
 use mathlib.Core.Path.{_≡_, refl, sym, ap, _∙_}
-use mathlib.Core.Logic.{_⊎_, inl, inr, ⊎-elim}
-use mathlib.Core.List.{List, [], _∷_}
+use mathlib.Core.Logic.{_⊎_, ⊎-elim}
+use mathlib.Core.List.{List}
 use Prim.Native.Nat.{ℕ, _+_, _-_, _%_, _^_, _<_, _≤_, min}
-use native.Mathlib.Nat.{mod-add-mod, add-mod-mod, add-mod-right, mod-lt, mod-eq-of-lt, zero-add, add-comm}
+use native.Mathlib.Nat.{mod-add-mod, add-mod-right, mod-lt, zero-add}
 use native.Mathlib.Omega.{arith}
-use lib.Pow.{pow-mono}
 use Rattle.std.proofs.shelf.Tests.{cases-lt}
 use Rattle.clock.specs.Wrap.{plus}
-use Rattle.clock.specs.Meaning.{Meaning, Counts, Lawful, advanced}
+use Rattle.clock.specs.Meaning.{Meaning, Lawful, advanced}
 use Rattle.clock.specs.Up.{total}
 use Rattle.clock.specs.Down.{back, down-meaning}
-use Rattle.clock.specs.Hold.{wait-for, Least, Never}
+use Rattle.clock.specs.Hold.{wait-for, Least}
 use Rattle.clock.specs.declared.down.Count.{Count}
 use Rattle.clock.specs.declared.appointment.Appointment.{Appointment}
 use Rattle.clock.specs.Appointment.{after-take}
-use Rattle.clock.specs.Calls.{Accepted, Stray}
+use Rattle.clock.specs.Calls.{Accepted}
 use Rattle.clock.proofs.Wrapping.{add-cancel}
+use Rattle.clock.proofs.Turning.{same-place, there-and-back}
 use Rattle.clock.proofs.Waiting.{wait-least, wait-never}
 
 -- n is the length of a round
 module _ (n : ℕ) (some : 0 < n) where
   -- going back s and on by s again comes to where it began
   pub back-on : (a s : ℕ) → (back n a s + s) % n ≡ a % n
-  back-on a s =
-      let here : a + (n - s % n) + s % n ≡ a + n = omega (arith, mod-lt s some) in
-      mod-add-mod (a + (n - s % n)) n s ∙ sym (add-mod-mod (a + (n - s % n)) s n) ∙ ap (λ x. x % n) here ∙ add-mod-right a n
-
-  -- two places from which s leads to the same place are one
-  same-place : (x y s : ℕ) → x < n → y < n → (x + s) % n ≡ (y + s) % n → x ≡ y
-  same-place x y s hx hy same =
-      let turned : (z : ℕ) → (s % n + z) % n ≡ (z + s) % n = λ z. ap (λ k. k % n) (add-comm (s % n) z) ∙ add-mod-mod z s n in
-      add-cancel n (s % n) x y (mod-lt s some) hx hy (turned x ∙ same ∙ sym (turned y))
+  back-on a s = mod-add-mod (a + (n - s % n)) n s ∙ there-and-back n some a s
 
   pub back-is : (a s x : ℕ) → x < n → (x + s) % n ≡ a % n → x ≡ back n a s
-  back-is a s x hx on = same-place x (back n a s) s hx (mod-lt _ some) (on ∙ sym (back-on a s))
+  back-is a s x hx on = same-place n some x (back n a s) s hx (mod-lt _ some) (on ∙ sym (back-on a s))
 
   -- a way back in two parts
   pub back-back : (a b s t : ℕ) → (b + s) % n ≡ a % n → back n b t ≡ back n a (s + t)

@@ -11,3 +11,4 @@ pub mod Settings
 pub mod Kept
 pub mod Widening
 pub mod Rate
+pub mod Offset
