@@ -8,3 +8,4 @@ pub mod Keeping
 pub mod Widened
 pub mod Rated
 pub mod Shifted
+pub mod Leading

@@ -12,3 +12,4 @@ pub mod Kept
 pub mod Widening
 pub mod Rate
 pub mod Offset
+pub mod Lead

@@ -3,6 +3,7 @@ pub mod alarm;
 pub mod appointment;
 pub mod down;
 mod kept;
+pub mod lead;
 pub mod offset;
 pub mod rate;
 pub mod settings;
