@@ -3,7 +3,7 @@
 // The lead tells which of two readings is the later one only while they lie less than half a turn apart. So no deadline is
 // judged by it: an appointment counts the ticks that are left.
 ghost use mathlib.Core.Path.{_≡_};
-ghost use Rattle.clock.specs.Lead.{lead-of, turned};
+ghost use Rattle.clock.specs.Lead.{lead-of, turned, Serial};
 use crate::wrap;
 use fault::Cause;
 use fault::Fault;
@@ -13,6 +13,7 @@ use fault::Fault;
 pub fn lead(width: u32, a: u64, b: u64) -> Result<i64, Fault>
     ensures answer { λ r. ⌜ r ≡ lead-of width a b ⌝ }
     ensures reverse { λ r. ⌜ turned r ≡ lead-of width b a ⌝ }
+    ensures serial { λ r. ⌜ Serial width a b r ⌝ }
 {
     if width < 2 || width > 48 {
         return Err(Fault::in_lead(Cause::BadSetting));

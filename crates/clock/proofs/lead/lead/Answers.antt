@@ -1,4 +1,4 @@
-use mathlib.Core.Path.{_≡_, sym, ap, _∙_}
+use mathlib.Core.Path.{_≡_, sym, ap, subst, _∙_}
 use Prim.Native.Nat.{ℕ, _+_, _-_, _^_, _<_, _≤_}
 use native.Mathlib.Nat.{mod-lt}
 use native.Mathlib.Omega.{arith}
@@ -12,9 +12,17 @@ use Rattle.std.proofs.shelf.Signed.{ints, toZ-pos, toZ-ofZ}
 use Rattle.fault.specs.declared.Fault.{Fault}
 use Rattle.fault.specs.Table.{half-turn}
 use Rattle.clock.specs.Wrap.{minus}
-use Rattle.clock.specs.Lead.{lead-at, lead-of, turned}
-use Rattle.clock.proofs.Leading.{lead-inside, lead-turned, at-less, at-more, at-half}
+use Rattle.clock.specs.Lead.{lead-at, lead-of, turned, Serial}
+use Rattle.clock.proofs.Leading.{lead-inside, lead-turned, lead-serial, at-less, at-more, at-half}
 use Rattle.clock.proofs.lead.lead.Needs as need
+
+-- both laws hold of an answer that is the lead
+module _ (w a b : ℕ) (r : Result ℤ Fault) (is : r ≡ lead-of w a b) where
+  reversed : turned r ≡ lead-of w b a
+  reversed = ap turned is ∙ lead-turned w a b
+
+  reached : Serial w a b r
+  reached = subst (Serial w a b) (sym is) (lead-serial w a b)
 
 -- what the code has computed where it comes to the distance
 module _ (w a b turn half d : ℕ) (low : 2 ≤ w) (high : w ≤ 48) (is-turn : turn ≡ 2 ^ w) (is-half : half ≡ 2 ^ (w - 1))
@@ -64,14 +72,14 @@ returns-then-distance-half c =
     let e = less (c .args .width) (c .args .a) (c .args .b) (c .turn-turn .result) (c .turn-half .result) (c .difference-distance .result)
     (c .if-width-lt2 .left) (c .if-width-gt48 .left) (c .turn-turn .ensures) (c .turn-half .ensures) (c .if-a-turn .left) (c .if-b-turn .left)
     (c .difference-distance .ensures) (c .if-distance-half .taken) in
-    record { answer = e; reverse = ap turned e ∙ lead-turned (c .args .width) (c .args .a) (c .args .b) }
+    record { answer = e; reverse = reversed (c .args .width) (c .args .a) (c .args .b) _ e; serial = reached (c .args .width) (c .args .a) (c .args .b) _ e }
 
 pub returns-then-distance-half-2 : need.returns-then-distance-half-2
 returns-then-distance-half-2 c =
     let e = more (c .args .width) (c .args .a) (c .args .b) (c .turn-turn .result) (c .turn-half .result) (c .difference-distance .result)
     (c .if-width-lt2 .left) (c .if-width-gt48 .left) (c .turn-turn .ensures) (c .turn-half .ensures) (c .if-a-turn .left) (c .if-b-turn .left)
     (c .difference-distance .ensures) (c .if-distance-half-2 .taken) in
-    record { answer = e; reverse = ap turned e ∙ lead-turned (c .args .width) (c .args .a) (c .args .b) }
+    record { answer = e; reverse = reversed (c .args .width) (c .args .a) (c .args .b) _ e; serial = reached (c .args .width) (c .args .a) (c .args .b) _ e }
 
 pub returns-else-distance-half-2 : need.returns-else-distance-half-2
 returns-else-distance-half-2 c =
@@ -79,4 +87,4 @@ returns-else-distance-half-2 c =
     ∙ middle (c .args .width) (c .args .a) (c .args .b) (c .turn-turn .result) (c .turn-half .result) (c .difference-distance .result)
     (c .if-width-lt2 .left) (c .if-width-gt48 .left) (c .turn-turn .ensures) (c .turn-half .ensures) (c .if-a-turn .left) (c .if-b-turn .left)
     (c .difference-distance .ensures) (c .if-distance-half .left) (c .if-distance-half-2 .left) in
-    record { answer = e; reverse = ap turned e ∙ lead-turned (c .args .width) (c .args .a) (c .args .b) }
+    record { answer = e; reverse = reversed (c .args .width) (c .args .a) (c .args .b) _ e; serial = reached (c .args .width) (c .args .a) (c .args .b) _ e }
