@@ -2,3 +2,10 @@ pub mod Wrapping
 pub mod Waiting
 pub mod Setting
 pub mod UpCounters
+pub mod Turning
+pub mod DownCounters
+pub mod Keeping
+pub mod Widened
+pub mod Rated
+pub mod Shifted
+pub mod Leading

@@ -6,3 +6,10 @@ pub mod Hold
 pub mod Calls
 pub mod Making
 pub mod Up
+pub mod Down
+pub mod Settings
+pub mod Kept
+pub mod Widening
+pub mod Rate
+pub mod Offset
+pub mod Lead

@@ -1,0 +1,11 @@
+use mathlib.Core.Path.{_≡_, refl, _∙_}
+use native.Mathlib.Omega.{arith}
+use borrow.Author.Needs.{needs}
+use Rattle.clock.proofs.DownCounters.{down-accepted}
+use Rattle.clock.proofs.down.DownAlarm.take.Needs as need
+
+pub returns : need.returns
+returns c =
+    let s = c .args .self .now in
+    down-accepted (s .reload) (s .last) (s .reading) (s .tag) (c .args .sample .0) (c .from-gained .result) (c .sum-self .result) (s .appointment) (c .take .last .self)
+    (search needs) (search needs) (search needs) (c .sum-self .ensures) (c .take .ensures .after)
