@@ -1,2 +1,3 @@
 pub mod Basics
 pub mod Firings
+pub mod Changes
