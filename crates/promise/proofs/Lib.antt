@@ -1,3 +1,5 @@
 pub mod Basics
 pub mod Firings
 pub mod Changes
+pub mod Frames
+pub mod Courses
