@@ -144,10 +144,10 @@ again-later s j (Burst count period) due action g st e = go (ltb 1 count) e
     go true e = let same : due + period ≡ g .due = ap (λ (x : Firing). x .due) (some-same e) in omega arith
     go false e = none-some e
 
-pub fired-later : (s j : ℕ) (slot : Slot) (f g : Firing) → SteadySlot slot → coming s j slot ≡ Some f → coming s j (fired slot) ≡ Some g → f .due < g .due
-fired-later s j Free f g st p q = none-some p
-fired-later s j (Standing due job true) f g st p q = none-some q
-fired-later s j (Standing due job false) f g st p q =
+pub fired-later : (s s′ j : ℕ) (slot : Slot) (f g : Firing) → SteadySlot slot → coming s j slot ≡ Some f → coming s′ j (fired slot) ≡ Some g → f .due < g .due
+fired-later s s′ j Free f g st p q = none-some p
+fired-later s s′ j (Standing due job true) f g st p q = none-some q
+fired-later s s′ j (Standing due job false) f g st p q =
     let same : due ≡ f .due = ap (λ (x : Firing). x .due) (some-same p) in
-    omega (arith, again-later s j (job .kind) due (job .action) g st q)
-fired-later s j (Waiting due) f g st p q = none-some p
+    omega (arith, again-later s′ j (job .kind) due (job .action) g st q)
+fired-later s s′ j (Waiting due) f g st p q = none-some p

@@ -3,3 +3,5 @@ pub mod Firings
 pub mod Changes
 pub mod Frames
 pub mod Courses
+pub mod Standing
+pub mod Completeness
