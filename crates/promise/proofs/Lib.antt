@@ -5,3 +5,6 @@ pub mod Frames
 pub mod Courses
 pub mod Standing
 pub mod Completeness
+pub mod Soundness
+pub mod Measuring
+pub mod Timing
