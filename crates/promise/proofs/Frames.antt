@@ -2,6 +2,7 @@
 use mathlib.Core.Path.{_≡_, refl, sym, ap, subst, _∙_}
 use mathlib.Core.List.{List, [], _∷_}
 use Prim.Native.Nat.{ℕ, _+_}
+use native.Mathlib.Omega.{arith}
 use lib.ListN.{length, set}
 use Rattle.std.proofs.shelf.Lists.{length-set}
 use Rattle.std.specs.declared.option.Option.{Option}
@@ -25,11 +26,17 @@ abbrev pub stack-by : {X : Type 0} → Meaning X → Option Reading → Meaning 
 stack-by m None = m
 stack-by m (Some r) = advanced m (r .ticks)
 
+-- the ticks that the stack gains
+abbrev pub gained : {X : Type 0} → Meaning X → Option Reading → ℕ
+gained m None = 0
+gained m (Some r) = m .measure (r .ticks)
+
 pub record Frame {X : Type 0} (l : Log X) (e : Event X) (m : Log X) : Type 0 where
   pub number : m .number ≡ l .number
   pub size : length (m .slots) ≡ length (l .slots)
   pub moment : m .moment ≡ moved (l .moment) (reading e)
   pub stack : m .stack ≡ stack-by (l .stack) (reading e)
+  pub gain : m .moment ≡ l .moment + gained (l .stack) (reading e)
 
 module _ {X : Type 0} (l : Log X) (e : Event X) (m : Log X) where
   frame-same : reading e ≡ None → m ≡ l → Frame l e m
@@ -38,6 +45,9 @@ module _ {X : Type 0} (l : Log X) (e : Event X) (m : Log X) where
     size = ap (λ (x : Log X). length (x .slots)) after;
     moment = ap (λ (x : Log X). x .moment) after ∙ sym (ap (λ (r : Option Reading). moved (l .moment) r) none);
     stack = ap (λ (x : Log X). x .stack) after ∙ sym (ap (λ (r : Option Reading). stack-by (l .stack) r) none);
+    gain =
+        ap (λ (x : Log X). x .moment) after
+        ∙ (let z : gained (l .stack) (reading e) ≡ 0 = ap (λ (r : Option Reading). gained (l .stack) r) none in omega arith);
   }
 
   frame-slot : (k : ℕ) (slot : Slot) → reading e ≡ None → m ≡ with-slot l k slot → Frame l e m
@@ -46,6 +56,9 @@ module _ {X : Type 0} (l : Log X) (e : Event X) (m : Log X) where
     size = ap (λ (x : Log X). length (x .slots)) after ∙ length-set (l .slots) k slot;
     moment = ap (λ (x : Log X). x .moment) after ∙ sym (ap (λ (r : Option Reading). moved (l .moment) r) none);
     stack = ap (λ (x : Log X). x .stack) after ∙ sym (ap (λ (r : Option Reading). stack-by (l .stack) r) none);
+    gain =
+        ap (λ (x : Log X). x .moment) after
+        ∙ (let z : gained (l .stack) (reading e) ≡ 0 = ap (λ (r : Option Reading). gained (l .stack) r) none in omega arith);
   }
 
   frame-set-up : (k : ℕ) (job : Job) (b : mathlib.Core.Bool.Bool) (r : Result ℕ Fault) → reading e ≡ None → m ≡ after-set-up l k job b r → Frame l e m
@@ -66,6 +79,7 @@ frame-serve {X} l m d x (Ok t) a = record {
   size = ap (λ (x : Log X). length (x .slots)) (a .after);
   moment = ap (λ (x : Log X). x .moment) (a .after) ∙ sym (a .answer);
   stack = ap (λ (x : Log X). x .stack) (a .after);
+  gain = ap (λ (x : Log X). x .moment) (a .after);
 }
 frame-serve l m d x (Err f) a = frame-same l (serve d x (Err f)) m refl (a .after)
 

@@ -15,7 +15,7 @@ use Rattle.promise.specs.Runs.{Event, serve}
 use Rattle.promise.specs.Words.{Reading, reading, moved, passed, true-ticks, moment-after, At}
 use Rattle.promise.specs.Promise.{Measured}
 use Rattle.promise.proofs.Basics.{none-some, some-same, there, within}
-use Rattle.promise.proofs.Frames.{Frame, framed, stack-by}
+use Rattle.promise.proofs.Frames.{Frame, framed, stack-by, gained}
 use Rattle.promise.proofs.Courses.{Course}
 
 module _ {g : ℕ → ℕ} (c : Counts g) where
@@ -58,27 +58,25 @@ module _ {X : Type 0} {j : ℕ} {l : Log X} {es : List (Event X)} (c : Course j 
       }
 
   gone-next : (n : ℕ) (e : Event X) → At es n e → (r : Option Reading) → reading e ≡ r → Gone n
-      → c .state (suc n) .moment ≡ moved (c .state n .moment) r
-      → (r ≡ None → c .state (suc n) .moment ≡ c .state n .moment)
-      → ((y : Reading) → r ≡ Some y → c .state (suc n) .moment ≡ c .state n .moment + c .state n .stack .measure (y .ticks))
+      → c .state (suc n) .moment ≡ c .state n .moment + gained (c .state n .stack) r
       → c .state (suc n) .stack ≡ stack-by (c .state n .stack) r → Gone (suc n)
-  gone-next n e here None rd before moment still serves stack =
+  gone-next n e here None rd before gain stack =
       let more : ticks-to (suc n) ≡ ticks-to n = ticks-more es n e here ∙ ap (λ (r : Option Reading). ticks-to n + passed r) rd ∙ omega arith in
       record {
-        moment = still refl ∙ before .moment ∙ ap (λ k. l .moment + l .stack .measure k) (sym more);
+        moment = (let same-moment : c .state (suc n) .moment ≡ c .state n .moment = omega arith in same-moment) ∙ before .moment ∙ ap (λ k. l .moment + l .stack .measure k) (sym more);
         measure = λ x.
             ap (λ (m : Meaning X). m .measure x) stack ∙ before .measure x
             ∙ ap (λ k. l .stack .measure (k + x) - l .stack .measure k) (sym more);
       }
-  gone-next n e here (Some y) rd before moment still serves stack =
+  gone-next n e here (Some y) rd before gain stack =
       let g = l .stack .measure in
       let t = ticks-to n in
       let d = y .ticks in
       let more : ticks-to (suc n) ≡ t + d = ticks-more es n e here ∙ ap (λ (r : Option Reading). t + passed r) rd in
       record {
         moment =
-            serves y refl
-            ∙ (let m : c .state n .stack .measure d ≡ g (t + d) - g t = before .measure d in omega (arith, before .moment, mono law t d))
+            (let m : c .state n .stack .measure d ≡ g (t + d) - g t = before .measure d in
+            let now-at : c .state (suc n) .moment ≡ l .moment + g (t + d) = omega (arith, before .moment, mono law t d) in now-at)
             ∙ ap (λ k. l .moment + g k) (sym more);
         measure = λ x.
             ap (λ (m : Meaning X). m .measure x) stack
@@ -89,3 +87,27 @@ module _ {X : Type 0} {j : ℕ} {l : Log X} {es : List (Event X)} (c : Course j 
             omega (arith, mono law t d, mono law (t + d) x) in goal)
             ∙ ap (λ k. g (k + x) - g k) (sym more);
       }
+
+  pub gone : (n : ℕ) → n ≤ length es → Gone n
+  gone zero near = gone-first
+  gone (suc n) near =
+      let e = there es n (omega arith) in
+      let f = framed (c .state n) (c .state (suc n)) (e .0) (c .step n (e .0) (e .1)) in
+      gone-next n (e .0) (e .1) (reading (e .0)) refl (gone n (omega arith)) (f .gain) (f .stack)
+
+  pub measured : Measured (l .moment) j es (l .stack)
+  measured i d t sample here =
+      let f = framed (c .state i) (c .state (suc i)) (serve d sample (Ok t)) (c .step i (serve d sample (Ok t)) here) in
+      sym (f .moment) ∙ gone (suc i) (within es i (serve d sample (Ok t)) here) .moment
+
+  counts-by : (m m′ : Meaning X) (r : Option Reading) → m′ ≡ stack-by m r → Counts (m .measure) → Counts (m′ .measure)
+  counts-by m m′ None e k = subst (λ (y : Meaning X). Counts (y .measure)) (sym e) k
+  counts-by m m′ (Some r) e k = subst (λ (y : Meaning X). Counts (y .measure)) (sym e) (counts-on k (r .ticks))
+
+  -- at every point of the course the stack's measure starts at 0 and grows by 0 or 1
+  pub counts : (n : ℕ) → n ≤ length es → Counts (c .state n .stack .measure)
+  counts zero near = subst (λ (y : Log X). Counts (y .stack .measure)) (sym (c .start)) law
+  counts (suc n) near =
+      let e = there es n (omega arith) in
+      let f = framed (c .state n) (c .state (suc n)) (e .0) (c .step n (e .0) (e .1)) in
+      counts-by (c .state n .stack) (c .state (suc n) .stack) (reading (e .0)) (f .stack) (counts n (omega arith))
