@@ -111,13 +111,13 @@ module _ {X : Type 0} (j : ℕ) (l m : Log X) (sized : length (l .slots) ≡ 32)
   elsewhere e k slot n p q other after =
       same p q (ap (λ (x : Log X). x .moment) after) (ap (λ (x : Log X). slot-of x j) after ∙ slot-set-other l j k slot other) (λ f i. no-next n i) (λ i. no-next n i)
 
-  here : (k : ℕ) (slot : Slot) → k ≡ j → k < 32 → m ≡ with-slot l k slot → slot-of m j ≡ slot
+  pub here : (k : ℕ) (slot : Slot) → k ≡ j → k < 32 → m ≡ with-slot l k slot → slot-of m j ≡ slot
   here k slot kj low after =
       let within : k < length (l .slots) = omega arith in
       ap (λ (x : Log X). slot-of x j) after ∙ subst (λ n. slot-of (with-slot l k slot) n ≡ slot) kj (slot-set l k slot within)
 
   -- a slot that is set free is free, also past the table
-  free-here : (k : ℕ) → k ≡ j → m ≡ with-slot l k Free → slot-of m j ≡ Free
+  pub free-here : (k : ℕ) → k ≡ j → m ≡ with-slot l k Free → slot-of m j ≡ Free
   free-here k kj after = ap (λ (x : Log X). slot-of x j) after ∙ subst (λ n. slot-of (with-slot l k Free) n ≡ Free) kj (freed-at (cases-lt k (length (l .slots))))
     where
       freed-at : (k < length (l .slots)) ⊎ (length (l .slots) ≤ k) → slot-of (with-slot l k Free) k ≡ Free

@@ -8,3 +8,4 @@ pub mod Completeness
 pub mod Soundness
 pub mod Measuring
 pub mod Timing
+pub mod Sameness

@@ -44,8 +44,20 @@ still-empty b (hold n) h = inl h
 pub rests-same : (j s s′ : ℕ) (slot slot′ : Slot) → s′ ≡ s → slot′ ≡ slot → Rests j s slot → Rests j s′ slot′
 rests-same j s s′ slot slot′ p q h = rw (p, q) h
 
-rests-free : (j s : ℕ) (slot : Slot) → slot ≡ Free → Rests j s slot
+pub rests-free : (j s : ℕ) (slot : Slot) → slot ≡ Free → Rests j s slot
 rests-free j s slot e = rw e (λ f p. none-some p)
+
+-- a logger that is emptied after an event has nothing due then, if that was so before
+pub rests-next : {X : Type 0} (j s s′ : ℕ) (slot slot′ : Slot) (b : Bool) (e : Event X) → (b ≡ true → Rests j s slot) → emptied-by b e ≡ true
+    → Change j s slot e s′ slot′ → Rests j s′ slot′
+rests-next j s s′ slot slot′ b e before after (same p q s-is slot-is own quiet) =
+    rests-same j s s′ slot slot′ s-is slot-is (⊎-elim before quiet (still-empty b e after))
+rests-next {X} j s s′ slot slot′ b e before after (moves d x i grows slot-is) = true-false (sym after ∙ ap (λ (y : Event X). emptied-by b y) i)
+rests-next j s s′ slot slot′ b e before after (starts job first given p q s-is free slot-is kind steady empty) = true-false (sym after ∙ empty b)
+rests-next j s s′ slot slot′ b e before after (ended p q s-is slot-is own) = rests-free j s′ slot′ slot-is
+rests-next {X} j s s′ slot slot′ b e before after (fires f i co due s-is slot-is) =
+    let was : b ≡ true = sym (ap (λ (y : Event X). emptied-by b y) i) ∙ after in
+    absurd (omega (arith, before was f co))
 
 module _ {X : Type 0} {j : ℕ} {l : Log X} {es : List (Event X)} (c : Course j l es) where
   abbrev pub s-at : ℕ → ℕ
@@ -57,25 +69,13 @@ module _ {X : Type 0} {j : ℕ} {l : Log X} {es : List (Event X)} (c : Course j 
   abbrev pub ChangeAt : ℕ → Event X → Type 0
   ChangeAt n e = Change {X = X} j (s-at n) (slot-at n) e (s-at (suc n)) (slot-at (suc n))
 
-  rests-next : (n : ℕ) (e : Event X) → (c .emptied n ≡ true → Rests j (s-at n) (slot-at n)) → emptied-by (c .emptied n) e ≡ true
-      → ChangeAt n e → Rests j (s-at (suc n)) (slot-at (suc n))
-  rests-next n e before after (same p q s slot own quiet) =
-      rests-same j (s-at n) (s-at (suc n)) (slot-at n) (slot-at (suc n)) s slot
-      (⊎-elim before quiet (still-empty (c .emptied n) e after))
-  rests-next n e before after (moves d x i grows slot) =
-      true-false (sym after ∙ ap (λ (y : Event X). emptied-by (c .emptied n) y) i)
-  rests-next n e before after (starts job first given p q s free slot kind steady empty) = true-false (sym after ∙ empty (c .emptied n))
-  rests-next n e before after (ended p q s slot own) = rests-free j (s-at (suc n)) (slot-at (suc n)) slot
-  rests-next n e before after (fires f i co due s slot) =
-      let b : c .emptied n ≡ true = sym (ap (λ (y : Event X). emptied-by (c .emptied n) y) i) ∙ after in
-      absurd (omega (arith, before b f co))
-
   -- an emptied logger has nothing due
   pub rests : (n : ℕ) → n ≤ length es → c .emptied n ≡ true → Rests j (s-at n) (slot-at n)
   rests zero h b = rests-free j (s-at 0) (slot-at 0) (c .free)
   rests (suc n) h b =
       let e = there es n (omega arith) in
-      rests-next n (e .0) (rests n (omega arith)) (sym (c .turns n (e .0) (e .1)) ∙ b) (c .change n (e .0) (e .1))
+      rests-next j (s-at n) (s-at (suc n)) (slot-at n) (slot-at (suc n)) (c .emptied n) (e .0) (rests n (omega arith)) (sym (c .turns n (e .0) (e .1)) ∙ b)
+      (c .change n (e .0) (e .1))
 
   steady-next : (n : ℕ) (e : Event X) → SteadySlot (slot-at n) → ChangeAt n e → SteadySlot (slot-at (suc n))
   steady-next n e before (same p q s slot own quiet) = rw slot before
