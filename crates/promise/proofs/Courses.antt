@@ -84,7 +84,8 @@ pub record Course {X : Type 0} (j : ℕ) (l : Log X) (es : List (Event X)) : Typ
   pub size : (n : ℕ) → length (state n .slots) ≡ 32
   pub fresh : emptied 0 ≡ true
 
-free-start : (j : ℕ) (slots : List Slot) → slots ≡ replicate 32 Free → lib.ListN.getD slots j Free ≡ Free
+-- every slot of such a table is free, and so is one past it
+pub free-start : (j : ℕ) (slots : List Slot) → slots ≡ replicate 32 Free → lib.ListN.getD slots j Free ≡ Free
 free-start j slots e = ap (λ (x : List Slot). lib.ListN.getD x j Free) e ∙ by (cases-lt j 32)
   where
     by : (j < 32) ⊎ (32 ≤ j) → lib.ListN.getD (replicate 32 Free) j Free ≡ Free

@@ -9,3 +9,4 @@ pub mod Soundness
 pub mod Measuring
 pub mod Timing
 pub mod Sameness
+pub mod Alikeness

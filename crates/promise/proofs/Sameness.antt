@@ -30,7 +30,7 @@ use Rattle.promise.specs.Words.{when, listed, brought, Shared, moment-read, as
 use Rattle.promise.proofs.Basics.{none-some, some-same, true-false, ok-err}
 use Rattle.promise.proofs.Changes.{Change, same, moves, starts, ended, fires, Rests, changed, no-next, set-up-fits, slot-set-other, here, free-here}
 use Rattle.promise.proofs.Frames.{framed}
-use Rattle.promise.proofs.Standing.{rests-next}
+use Rattle.promise.proofs.Standing.{rests-next, rests-free}
 use Rattle.promise.proofs.Completeness.{next-same}
 
 -- a moment read or a call of the slot with what was seen of it, or a report of the slot
@@ -175,3 +175,174 @@ module _ (j : ℕ) where
       let bb : b ≡ b′ = x .0 .is ∙ ap (λ (f : Firing). reported (f .due) (f .at) (f .action)) ff ∙ sym (y .0 .is) in
       let tail : os ≡ ps = one-course s (fired slot) os ps (x .1) (y .1) e in
       cc
+
+-- ---- a step of a logger, as one slot hears of it
+module _ {X : Type 0} (j : ℕ) (l m : Log X) (sized : length (l .slots) ≡ 32) where
+  abbrev Heard : Event X → Option Own → Type 0
+  Heard e None = (m .moment ≡ l .moment) × (slot-of m j ≡ slot-of l j)
+  Heard e (Some (call a b)) =
+      (is-next e ≡ false) × (b ≡ answer j (l .moment) (slot-of l j) a) × (m .moment ≡ moment-by j (l .moment) a)
+      × (slot-of m j ≡ slot-by j (l .moment) (slot-of l j) a)
+  Heard e (Some (report b)) = Reports j (l .moment) (slot-of l j) b × (m .moment ≡ l .moment) × (slot-of m j ≡ fired (slot-of l j))
+
+  nothing : m ≡ l → (m .moment ≡ l .moment) × (slot-of m j ≡ slot-of l j)
+  nothing after = (ap (λ (x : Log X). x .moment) after, ap (λ (x : Log X). slot-of x j) after)
+
+  other-slot : (k : ℕ) (slot : Slot) → (k ≡ j → ⊥) → m ≡ with-slot l k slot → (m .moment ≡ l .moment) × (slot-of m j ≡ slot-of l j)
+  other-slot k slot other after =
+      (ap (λ (x : Log X). x .moment) after, ap (λ (x : Log X). slot-of x j) after ∙ slot-set-other l j k slot other)
+
+  other-set-up : (k : ℕ) (job : Job) (b : Bool) (o : Result ℕ Fault) → (k ≡ j → ⊥) → m ≡ after-set-up l k job b o
+      → (m .moment ≡ l .moment) × (slot-of m j ≡ slot-of l j)
+  other-set-up k job b (Ok due) other after = other-slot k (Standing due job b) other after
+  other-set-up k job b (Err f) other after = nothing after
+
+  other-freed : {Y : Type 0} (k : ℕ) (o : Result Y Fault) → (k ≡ j → ⊥) → m ≡ freed l k o → (m .moment ≡ l .moment) × (slot-of m j ≡ slot-of l j)
+  other-freed k (Ok y) other after = other-slot k Free other after
+  other-freed k (Err f) other after = nothing after
+
+  own-set-up : (reference delay : ℕ) (job : Job) (b : Bool) (o : Result ℕ Fault) → o ≡ set-up-slot (l .moment) j (slot-of l j) reference delay job
+      → m ≡ after-set-up l j job b o → (m .moment ≡ l .moment) × (slot-of m j ≡ placed job b o (slot-of l j))
+  own-set-up reference delay job b (Ok due) o after =
+      (ap (λ (x : Log X). x .moment) after,
+       here j l m sized j (Standing due job b) refl (set-up-fits (l .moment) j (slot-of l j) reference delay job due o .low) after)
+  own-set-up reference delay job b (Err f) o after = nothing after
+
+  own-freed : {Y : Type 0} (o : Result Y Fault) → m ≡ freed l j o → (m .moment ≡ l .moment) × (slot-of m j ≡ given-up o (slot-of l j))
+  own-freed (Ok y) after = (ap (λ (x : Log X). x .moment) after, free-here j l m sized j refl after)
+  own-freed (Err f) after = nothing after
+
+  heard-serve : (number d : ℕ) (x : X) (r : Result ℕ Fault) → Step l (serve d x r) m → Heard (serve d x r) (own number j (serve d x r))
+  heard-serve number d x (Ok t) a =
+      (refl, refl, ap (λ (x : Log X). x .moment) (a .after) ∙ sym (a .answer), ap (λ (x : Log X). slot-of x j) (a .after))
+  heard-serve number d x (Err f) a = nothing (a .after)
+
+  heard-set-up : (k reference delay : ℕ) (job : Job) (r : Result ℕ Fault) → Step l (set-up k reference delay job r) m → (b : Bool) → eqb k j ≡ b
+      → Heard (set-up k reference delay job r) (when b (call (asks-set-up reference delay job) (set-up-told r)))
+  heard-set-up k reference delay job r a true t =
+      let a′ : Step l (set-up j reference delay job r) m = subst (λ n. Step l (set-up n reference delay job r) m) (eqb-true k j t) a in
+      let w = own-set-up reference delay job false r (a′ .answer) (a′ .after) in
+      (refl, ap (λ (o : Result ℕ Fault). set-up-told o) (a′ .answer), w .0,
+       w .1 ∙ ap (λ (o : Result ℕ Fault). placed job false o (slot-of l j)) (a′ .answer))
+  heard-set-up k reference delay job r a false t = other-set-up k job false r (eqb-false k j t) (a .after)
+
+  numberless-ticketed : (o : Result ℕ Fault) → numberless (ticketed l j o) ≡ slotted j o
+  numberless-ticketed (Ok due) = refl
+  numberless-ticketed (Err f) = refl
+
+  heard-errand : (k reference delay : ℕ) (action : Action) (r : Result Ticket Fault) → Step l (errand k reference delay action r) m → (b : Bool) → eqb k j ≡ b
+      → Heard (errand k reference delay action r) (when b (call (asks-errand reference delay action) (errand-told (numberless r))))
+  heard-errand k reference delay action r a true t =
+      let a′ : Step l (errand j reference delay action r) m = subst (λ n. Step l (errand n reference delay action r) m) (eqb-true k j t) a in
+      let o = set-up-slot (l .moment) j (slot-of l j) reference delay (once-job action) in
+      let w = own-set-up reference delay (once-job action) true o refl (a′ .after) in
+      (refl, ap (λ (y : Result Ticket Fault). errand-told (numberless y)) (a′ .answer) ∙ ap (λ (y : Result ℕ Fault). errand-told y) (numberless-ticketed o),
+       w .0, w .1)
+  heard-errand k reference delay action r a false t = other-set-up k (once-job action) true _ (eqb-false k j t) (a .after)
+
+  heard-call-off : (k : ℕ) (r : Result ℕ Fault) → Step l (call-off k r) m → (b : Bool) → eqb k j ≡ b
+      → Heard (call-off k r) (when b (call asks-call-off (call-off-told r)))
+  heard-call-off k r a true t =
+      let a′ : Step l (call-off j r) m = subst (λ n. Step l (call-off n r) m) (eqb-true k j t) a in
+      let w = own-freed r (a′ .after) in
+      (refl, ap (λ (o : Result ℕ Fault). call-off-told o) (a′ .answer), w .0,
+       w .1 ∙ ap (λ (o : Result ℕ Fault). given-up o (slot-of l j)) (a′ .answer))
+  heard-call-off k r a false t = other-freed k r (eqb-false k j t) (a .after)
+
+  foreign : (ticket : Ticket) (r : Result Outcome Fault) → r ≡ settle-answer l ticket → eqb (ticket .number) (l .number) ≡ false → m ≡ freed l (ticket .slot) r → m ≡ l
+  foreign ticket (Ok y) answer t after = ok-err (answer ∙ cond-false _ _ _ t)
+  foreign ticket (Err f) answer t after = after
+
+  heard-settle : (ticket : Ticket) (r : Result Outcome Fault) → Step l (settle ticket r) m → (b : Bool) → own-ticket (l .number) j ticket ≡ b
+      → Heard (settle ticket r) (when b (call asks-settle (settle-told r)))
+  heard-settle ticket r a true t =
+      let parts = and-parts (eqb (ticket .slot) j) (eqb (ticket .number) (l .number)) t in
+      let slot-j : ticket .slot ≡ j = eqb-true (ticket .slot) j (parts .0) in
+      let answer-j : r ≡ settle-slot j (slot-of l j) =
+      a .answer ∙ cond-true _ _ _ (parts .1) ∙ ap (λ n. settle-slot n (slot-of l n)) slot-j in
+      let w = own-freed r (a .after ∙ ap (λ n. freed l n r) slot-j) in
+      (refl, ap (λ (o : Result Outcome Fault). settle-told o) answer-j, w .0,
+       w .1 ∙ ap (λ (o : Result Outcome Fault). given-up o (slot-of l j)) answer-j)
+  heard-settle ticket r a false t = by (and-cases (eqb (ticket .slot) j) (eqb (ticket .number) (l .number)) t)
+    where
+      by : (eqb (ticket .slot) j ≡ false) ⊎ (eqb (ticket .number) (l .number) ≡ false) → (m .moment ≡ l .moment) × (slot-of m j ≡ slot-of l j)
+      by (inl p) = other-freed (ticket .slot) r (eqb-false (ticket .slot) j p) (a .after)
+      by (inr p) = nothing (foreign ticket r (a .answer) p (a .after))
+
+  heard-next : (f : Firing) → Change {X = X} j (l .moment) (slot-of l j) (next (Some f)) (m .moment) (slot-of m j) → (b : Bool) → eqb (f .slot) j ≡ b
+      → Heard (next (Some f)) (when b (report (reported (f .due) (f .at) (f .action))))
+  heard-next f (same p q s slot other quiet) true t = absurd (other f refl (eqb-true (f .slot) j t))
+  heard-next f (same p q s slot other quiet) false t = (s, slot)
+  heard-next f (moves d x i grows slot) b t = no-next {e = serve d x (Ok (m .moment))} refl (sym i)
+  heard-next f (starts job first given p q s free slot kind st empty) b t = none-some p
+  heard-next f (ended p q s slot other) b t = absurd (other f refl)
+  heard-next f (fires g i co due s slot) true t =
+      let gf : g ≡ f = sym (next-same i) in
+      (record { firing = g; comes-now = co; due = due; is = ap (λ (y : Firing). reported (y .due) (y .at) (y .action)) (sym gf) }, s, slot)
+  heard-next f (fires g i co due s slot) false t =
+      let fg : f ≡ g = next-same i in
+      absurd (eqb-false (f .slot) j t (ap (λ (y : Firing). y .slot) fg ∙ coming-slot (l .moment) j (slot-of l j) g co))
+
+  pub heard : (e : Event X) → Step l e m → Heard e (own (l .number) j e)
+  heard (serve d x r) a = heard-serve (l .number) d x r a
+  heard (set-up k reference delay job r) a = heard-set-up k reference delay job r a (eqb k j) refl
+  heard (errand k reference delay action r) a = heard-errand k reference delay action r a (eqb k j) refl
+  heard (call-off k r) a = heard-call-off k r a (eqb k j) refl
+  heard (settle ticket r) a = heard-settle ticket r a (own-ticket (l .number) j ticket) refl
+  heard (next None) a = nothing (a .after)
+  heard (next (Some f)) a = heard-next f (changed j l m sized (next (Some f)) a) (eqb (f .slot) j) refl
+  heard (hold n) a = nothing (a .after)
+
+  -- what is heard goes before a course
+  pub heard-then : (e : Event X) (o : Option Own) (os : List Own) → Heard e o → (is-next e ≡ false → Rests j (l .moment) (slot-of l j))
+      → Alone j (m .moment) (slot-of m j) os → Alone j (l .moment) (slot-of l j) (listed o os)
+  heard-then e None os h rest alone =
+      subst (λ n. Alone j n (slot-of l j) os) (h .0) (subst (λ (y : Slot). Alone j (m .moment) y os) (h .1) alone)
+  heard-then e (Some (call a b)) os h rest alone =
+      (rest (h .0), h .1,
+       subst (λ n. Alone j n (slot-by j (l .moment) (slot-of l j) a) os) (h .2) (subst (λ (y : Slot). Alone j (m .moment) y os) (h .3) alone))
+  heard-then e (Some (report b)) os h rest alone =
+      (h .0, subst (λ n. Alone j n (fired (slot-of l j)) os) (h .1) (subst (λ (y : Slot). Alone j (m .moment) y os) (h .2) alone))
+
+truly : (b a : Bool) → T (b || a) → a ≡ false → b ≡ true
+truly true a t e = refl
+truly false true t e = true-false e
+truly false false t e = absurd t
+
+yes-true : (b : Bool) → T b → b ≡ true
+yes-true true t = refl
+yes-true false t = absurd t
+
+-- every run, seen at one slot, is a course of that slot alone
+alone : {X : Type 0} (j : ℕ) {l l′ : Log X} {es : List (Event X)} (b : Bool) → Run l es l′ → length (l .slots) ≡ 32 → Emptied b es
+    → (b ≡ true → Rests j (l .moment) (slot-of l j)) → Alone j (l .moment) (slot-of l j) (brought (own (l .number) j) es)
+alone j b done size em rest = rest (yes-true b em)
+alone {X} j b (then {l = l} {m = m} {n = n} {e = e} {es = es} a r) size em rest =
+    let f = framed l m e a in
+    let on : Alone j (m .moment) (slot-of m j) (brought (own (m .number) j) es) =
+    alone j {l = m} (emptied-by b e) r (f .size ∙ size) (em .1)
+    (λ empty. rests-next j (l .moment) (m .moment) (slot-of l j) (slot-of m j) b e rest empty (changed j l m size e a)) in
+    heard-then j l m size e (own (l .number) j e) (brought (own (l .number) j) es) (heard j l m size e a)
+    (λ other. rest (truly b (is-next e) (em .0) other))
+    (subst (λ k. Alone j (m .moment) (slot-of m j) (brought (own k j) es)) (f .number) on)
+
+-- so two runs from a free slot at the same moment that share what is asked have the same seen
+pub same-seen : {X Y : Type 0} (j : ℕ) (l l′ : Log X) (k k′ : Log Y) (es : List (Event X)) (fs : List (Event Y))
+    → length (l .slots) ≡ 32 → length (k .slots) ≡ 32 → slot-of l j ≡ Free → slot-of k j ≡ Free → l .moment ≡ k .moment
+    → Run l es l′ → Run k fs k′ → Emptied true es → Emptied true fs
+    → brought (shared (l .number) j) es ≡ brought (shared (k .number) j) fs
+    → brought (seen (l .number) j) es ≡ brought (seen (k .number) j) fs
+same-seen {X} {Y} j l l′ k k′ es fs size size′ free free′ moment r r′ em em′ e =
+    let os = brought (own (l .number) j) es in
+    let ps = brought (own (k .number) j) fs in
+    let x : Alone j (l .moment) (slot-of l j) os = alone j true r size em (λ b. rests-free j (l .moment) (slot-of l j) free) in
+    let y : Alone j (k .moment) (slot-of k j) ps = alone j true r′ size′ em′ (λ b. rests-free j (k .moment) (slot-of k j) free′) in
+    let y′ : Alone j (l .moment) (slot-of l j) ps =
+    subst (λ n. Alone j n (slot-of l j) ps) (sym moment) (subst (λ (s : Slot). Alone j (k .moment) s ps) (free′ ∙ sym free) y) in
+    let asks : brought asked os ≡ brought asked ps =
+    sym (brought-own (shared (l .number) j) (own (l .number) j) asked (shared-own (l .number) j) es) ∙ e
+    ∙ brought-own (shared (k .number) j) (own (k .number) j) asked (shared-own (k .number) j) fs in
+    let same-own : os ≡ ps = one-course j (l .moment) (slot-of l j) os ps x y′ asks in
+    brought-own (seen (l .number) j) (own (l .number) j) told-of (seen-own (l .number) j) es
+    ∙ ap (λ (q : List Own). brought told-of q) same-own
+    ∙ sym (brought-own (seen (k .number) j) (own (k .number) j) told-of (seen-own (k .number) j) fs)

@@ -26,5 +26,6 @@ pub fn start_alike<C: Alarm, D: Alarm>(a: &Logger<C>, b: &Logger<D>) -> bool
     ensures answer { λ r. ⌜ r ≡ starts-alike (view (C·Clock .meaning) (now (a .entry))) (view (D·Clock .meaning) (now (b .entry))) ⌝ }
     ensures promise { λ r. ⌜ (T r → Alike (view (C·Clock .meaning) (now (a .entry))) (view (D·Clock .meaning) (now (b .entry)))) ⌝ }
 {
-    all_free(a.slots()) && all_free(b.slots()) && a.moment() == b.moment()
+    let free = all_free(a.slots()) && all_free(b.slots());
+    free && a.moment() == b.moment()
 }
