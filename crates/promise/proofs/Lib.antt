@@ -10,3 +10,4 @@ pub mod Measuring
 pub mod Timing
 pub mod Sameness
 pub mod Alikeness
+pub mod Occurring

@@ -104,9 +104,9 @@ brought-own {A} {B} {C} f g h e (x ∷ xs) =
     ∙ sym (brought-listed h (g x) (brought g xs))
 
 -- ---- one slot alone
--- what is left of an accepted errand's ticket is its slot
-abbrev slotted : ℕ → Result ℕ Fault → Result ℕ Fault
-slotted j (Ok due) = Ok j
+-- the ticket of an accepted errand, but for its number
+abbrev slotted : ℕ → Result ℕ Fault → Result Ticket Fault
+slotted j (Ok due) = Ok (record { number = 0; slot = j; spent = false })
 slotted j (Err f) = Err f
 
 abbrev placed : Job → Bool → Result ℕ Fault → Slot → Slot
@@ -236,7 +236,7 @@ module _ {X : Type 0} (j : ℕ) (l m : Log X) (sized : length (l .slots) ≡ 32)
       let a′ : Step l (errand j reference delay action r) m = subst (λ n. Step l (errand n reference delay action r) m) (eqb-true k j t) a in
       let o = set-up-slot (l .moment) j (slot-of l j) reference delay (once-job action) in
       let w = own-set-up reference delay (once-job action) true o refl (a′ .after) in
-      (refl, ap (λ (y : Result Ticket Fault). errand-told (numberless y)) (a′ .answer) ∙ ap (λ (y : Result ℕ Fault). errand-told y) (numberless-ticketed o),
+      (refl, ap (λ (y : Result Ticket Fault). errand-told (numberless y)) (a′ .answer) ∙ ap (λ (y : Result Ticket Fault). errand-told y) (numberless-ticketed o),
        w .0, w .1)
   heard-errand k reference delay action r a false t = other-set-up k (once-job action) true _ (eqb-false k j t) (a .after)
 

@@ -60,15 +60,15 @@ shared number j (hold n) = None
 pub data Seen : Type 0 where
   moment-seen : ℕ → Seen
   set-up-told : Result ℕ Fault → Seen
-  errand-told : Result ℕ Fault → Seen
+  errand-told : Result Ticket Fault → Seen
   call-off-told : Result ℕ Fault → Seen
   settle-told : Result Outcome Fault → Seen
   -- due moment, moment answered, action
   reported : ℕ → ℕ → Action → Seen
 
--- what is left of a ticket is its slot
-abbrev pub numberless : Result Ticket Fault → Result ℕ Fault
-numberless (Ok ticket) = Ok (ticket .slot)
+-- a ticket with 0 for the logger's number
+abbrev pub numberless : Result Ticket Fault → Result Ticket Fault
+numberless (Ok ticket) = Ok (record { number = 0; slot = ticket .slot; spent = ticket .spent })
 numberless (Err fault) = Err fault
 
 abbrev pub seen : {X : Type 0} → ℕ → ℕ → Event X → Option Seen
