@@ -10,7 +10,7 @@ use Rattle.std.specs.declared.option.Option.the-variants.{Some, None}
 use Rattle.clock.specs.Hold.{first-from}
 use Rattle.clock.specs.declared.up.Word.{Word}
 use Rattle.promise.specs.Runs.{Run, done, then, Emptied, Event}
-use Rattle.promise.specs.Example.{left-log, left-run, right-log, right-run, Occurs}
+use Rattle.promise.specs.Example.{left-log, left-run, right-log, right-run, Occurs, Occurring}
 use Rattle.logger.specs.State.{Log}
 use Rattle.promise.specs.Words.{sets, ends, moment-at, NoSetUp, NoEnd}
 use Rattle.promise.proofs.Basics.{some-same}
@@ -99,3 +99,7 @@ occurs = record {
   };
   reports = record { after = omega arith; answer = refl; own = only-one };
 }
+
+pub occurring : Occurring
+unfolding Occurring
+occurring = occurs

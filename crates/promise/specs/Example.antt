@@ -71,3 +71,7 @@ pub record Occurs : Type 0 where
   pub reached : ReachedBy 2 left-run 1000 0 1010 3
   pub as-held : AsHeld left-run 3 10
   pub reports : ReportedAt 2 left-run 0 1010 Mark 4 1010
+
+-- shut, so that a caller's search does not look into the runs
+unfoldable pub Occurring : Type 0
+Occurring = Occurs

@@ -2,6 +2,7 @@
 ghost use mathlib.Core.Path.{_≡_};
 ghost use lib.Dec.{T};
 ghost use Rattle.logger.specs.State.{view};
+ghost use Rattle.promise.specs.Example.{Occurring};
 ghost use Rattle.promise.specs.Promise.{all-free, starts-alike, Alike};
 use clock::alarm::Alarm;
 use logger::jobs::Slot;
@@ -21,10 +22,11 @@ fn all_free(slots: &[Slot]) -> bool
 }
 
 // Whether every slot of both loggers is free and their moments are equal, as of two fresh loggers with one start.
-// Two such loggers keep the promise, whatever stacks they stand on.
+// Two such loggers keep the promise, whatever stacks they stand on; and there are runs that it speaks of.
 pub fn start_alike<C: Alarm, D: Alarm>(a: &Logger<C>, b: &Logger<D>) -> bool
     ensures answer { λ r. ⌜ r ≡ starts-alike (view (C·Clock .meaning) (now (a .entry))) (view (D·Clock .meaning) (now (b .entry))) ⌝ }
     ensures promise { λ r. ⌜ (T r → Alike (view (C·Clock .meaning) (now (a .entry))) (view (D·Clock .meaning) (now (b .entry)))) ⌝ }
+    ensures occurs { λ _. ⌜ Occurring ⌝ }
 {
     let free = all_free(a.slots()) && all_free(b.slots());
     free && a.moment() == b.moment()
