@@ -42,11 +42,12 @@ kept j l l′ es law slots r em =
 
 pub alike : {X Y : Type 0} (l : Log X) (k : Log Y) → Counts (l .stack .measure) → Counts (k .stack .measure)
     → l .slots ≡ replicate 32 Free → k .slots ≡ replicate 32 Free → l .moment ≡ k .moment → Alike l k
-alike l k law law′ slots slots′ moment j es fs l′ k′ r r′ em em′ shared =
-    (same-seen j l l′ k k′ es fs (ap (λ (xs : List Slot). length xs) slots) (ap (λ (xs : List Slot). length xs) slots′)
-        (free-start j (l .slots) slots) (free-start j (k .slots) slots′) moment r r′ em em′ shared,
-     kept j l l′ es law slots r em,
-     kept j k k′ fs law′ slots′ r′ em′)
+alike l k law law′ slots slots′ moment j es fs l′ k′ r r′ em em′ shared = (
+  same-seen j l l′ k k′ es fs (ap (λ (xs : List Slot). length xs) slots) (ap (λ (xs : List Slot). length xs) slots′)
+      (free-start j (l .slots) slots) (free-start j (k .slots) slots′) moment r r′ em em′ shared,
+  kept j l l′ es law slots r em,
+  kept j k k′ fs law′ slots′ r′ em′,
+)
 
 pub all-free-table : (slots : List Slot) → length slots ≡ 32 → all-free slots ≡ true → slots ≡ replicate 32 Free
 all-free-table slots size e = free-table slots e ∙ ap (λ n. replicate n Free) size

@@ -40,14 +40,14 @@ Rests j s slot = (f : Firing) → coming s j slot ≡ Some f → s < f .due
 -- slot j is in state slot at moment s before the event, in state slot′ at moment s′ after it
 pub data Change {X : Type 0} (j s : ℕ) (slot : Slot) (e : Event X) (s′ : ℕ) (slot′ : Slot) : Type 0 where
   same :
-    sets j e ≡ None → ends j e ≡ false → s′ ≡ s → slot′ ≡ slot
-    → ((f : Firing) → e ≡ next (Some f) → f .slot ≡ j → ⊥) → (e ≡ next None → Rests j s slot)
-    → Change j s slot e s′ slot′
+      sets j e ≡ None → ends j e ≡ false → s′ ≡ s → slot′ ≡ slot
+      → ((f : Firing) → e ≡ next (Some f) → f .slot ≡ j → ⊥) → (e ≡ next None → Rests j s slot)
+      → Change j s slot e s′ slot′
   moves : (d : ℕ) (x : X) → e ≡ serve d x (Ok s′) → s ≤ s′ → slot′ ≡ slot → Change j s slot e s′ slot′
   starts :
-    (job : Job) (first : ℕ) (given : Bool) → sets j e ≡ Some (job, first) → ends j e ≡ false → s′ ≡ s → slot ≡ Free → slot′ ≡ Standing first job given
-    → kind-by given (job .kind) ≡ job .kind → Steady (job .kind) → ((b : Bool) → emptied-by b e ≡ false)
-    → Change j s slot e s′ slot′
+      (job : Job) (first : ℕ) (given : Bool) → sets j e ≡ Some (job, first) → ends j e ≡ false → s′ ≡ s → slot ≡ Free → slot′ ≡ Standing first job given
+      → kind-by given (job .kind) ≡ job .kind → Steady (job .kind) → ((b : Bool) → emptied-by b e ≡ false)
+      → Change j s slot e s′ slot′
   ended : sets j e ≡ None → ends j e ≡ true → s′ ≡ s → slot′ ≡ Free → ((f : Firing) → e ≡ next (Some f) → ⊥) → Change j s slot e s′ slot′
   fires : (f : Firing) → e ≡ next (Some f) → coming s j slot ≡ Some f → f .due ≤ s → s′ ≡ s → slot′ ≡ fired slot → Change j s slot e s′ slot′
 

@@ -17,18 +17,19 @@ use Rattle.promise.proofs.Basics.{some-same}
 
 left-goes : (l : Log Word) × Run left-log left-run l
 unfolding first-from
-left-goes =
-    (_,
-     then (record { answer = refl; after = refl })
-     (then (record { answer = refl; after = refl })
-     (then (record { answer = refl; after = refl })
-     (then (record { early = omega arith; within = omega arith; shows = refl; answer = refl; after = refl })
-     (then (record { answer = refl; after = refl })
-     (then (record { answer = refl; after = refl })
-     (then (record { early = omega arith; within = omega arith; shows = refl; answer = refl; after = refl })
-     (then (record { answer = refl; after = refl })
-     (then (record { answer = refl; after = refl })
-     (then (record { answer = refl; after = refl }) done))))))))))
+left-goes = (
+  _,
+  then (record { answer = refl; after = refl })
+      (then (record { answer = refl; after = refl })
+      (then (record { answer = refl; after = refl })
+      (then (record { early = omega arith; within = omega arith; shows = refl; answer = refl; after = refl })
+      (then (record { answer = refl; after = refl })
+      (then (record { answer = refl; after = refl })
+      (then (record { early = omega arith; within = omega arith; shows = refl; answer = refl; after = refl })
+      (then (record { answer = refl; after = refl })
+      (then (record { answer = refl; after = refl })
+      (then (record { answer = refl; after = refl }) done))))))))),
+)
 
 -- a 16-bit counter never shows 65536
 never-shown : (d : ℕ) → _≡_ {A = Word} (record { 0 = 65536 }) (record { 0 = (7 + (0 + d)) % 65536 }) → ⊥
@@ -37,23 +38,24 @@ never-shown d e =
     omega arith
 
 right-goes : (l : Log Word) × Run right-log right-run l
-right-goes =
-    (_,
-     then (record { answer = refl; after = refl })
-     (then (record { answer = refl; after = refl })
-     (then (record { answer = refl; after = refl })
-     (then (record { answer = refl; after = refl })
-     (then (record { why = inr (omega arith, (λ d h e. never-shown d e), refl); after = refl })
-     (then (record { early = omega arith; within = omega arith; shows = refl; answer = refl; after = refl })
-     (then (record { answer = refl; after = refl })
-     (then (record { answer = refl; after = refl })
-     (then (record { answer = refl; after = refl })
-     (then (record { answer = refl; after = refl })
-     (then (record { early = omega arith; within = omega arith; shows = refl; answer = refl; after = refl })
-     (then (record { answer = refl; after = refl })
-     (then (record { answer = refl; after = refl })
-     (then (record { answer = refl; after = refl })
-     (then (record { answer = refl; after = refl }) done)))))))))))))))
+right-goes = (
+  _,
+  then (record { answer = refl; after = refl })
+      (then (record { answer = refl; after = refl })
+      (then (record { answer = refl; after = refl })
+      (then (record { answer = refl; after = refl })
+      (then (record { why = inr (omega arith, (λ d h e. never-shown d e), refl); after = refl })
+      (then (record { early = omega arith; within = omega arith; shows = refl; answer = refl; after = refl })
+      (then (record { answer = refl; after = refl })
+      (then (record { answer = refl; after = refl })
+      (then (record { answer = refl; after = refl })
+      (then (record { answer = refl; after = refl })
+      (then (record { early = omega arith; within = omega arith; shows = refl; answer = refl; after = refl })
+      (then (record { answer = refl; after = refl })
+      (then (record { answer = refl; after = refl })
+      (then (record { answer = refl; after = refl })
+      (then (record { answer = refl; after = refl }) done)))))))))))))),
+)
 
 -- before the serve at 3 the moment is 1000, and nothing is given up or set up anew
 not-yet : (q : ℕ) → 0 ≤ q → q < 3 → moment-at left-run 1000 q < 1010

@@ -203,9 +203,10 @@ module _ {X : Type 0} (j : ℕ) (l m : Log X) (sized : length (l .slots) ≡ 32)
 
   own-set-up : (reference delay : ℕ) (job : Job) (b : Bool) (o : Result ℕ Fault) → o ≡ set-up-slot (l .moment) j (slot-of l j) reference delay job
       → m ≡ after-set-up l j job b o → (m .moment ≡ l .moment) × (slot-of m j ≡ placed job b o (slot-of l j))
-  own-set-up reference delay job b (Ok due) o after =
-      (ap (λ (x : Log X). x .moment) after,
-       here j l m sized j (Standing due job b) refl (set-up-fits (l .moment) j (slot-of l j) reference delay job due o .low) after)
+  own-set-up reference delay job b (Ok due) o after = (
+    ap (λ (x : Log X). x .moment) after,
+    here j l m sized j (Standing due job b) refl (set-up-fits (l .moment) j (slot-of l j) reference delay job due o .low) after,
+  )
   own-set-up reference delay job b (Err f) o after = nothing after
 
   own-freed : {Y : Type 0} (o : Result Y Fault) → m ≡ freed l j o → (m .moment ≡ l .moment) × (slot-of m j ≡ given-up o (slot-of l j))
@@ -221,9 +222,12 @@ module _ {X : Type 0} (j : ℕ) (l m : Log X) (sized : length (l .slots) ≡ 32)
       → Heard (set-up k reference delay job r) (when b (call (asks-set-up reference delay job) (set-up-told r)))
   heard-set-up k reference delay job r a true t =
       let a′ : Step l (set-up j reference delay job r) m = subst (λ n. Step l (set-up n reference delay job r) m) (eqb-true k j t) a in
-      let w = own-set-up reference delay job false r (a′ .answer) (a′ .after) in
-      (refl, ap (λ (o : Result ℕ Fault). set-up-told o) (a′ .answer), w .0,
-       w .1 ∙ ap (λ (o : Result ℕ Fault). placed job false o (slot-of l j)) (a′ .answer))
+      let w = own-set-up reference delay job false r (a′ .answer) (a′ .after) in (
+        refl,
+        ap (λ (o : Result ℕ Fault). set-up-told o) (a′ .answer),
+        w .0,
+        w .1 ∙ ap (λ (o : Result ℕ Fault). placed job false o (slot-of l j)) (a′ .answer),
+      )
   heard-set-up k reference delay job r a false t = other-set-up k job false r (eqb-false k j t) (a .after)
 
   numberless-ticketed : (o : Result ℕ Fault) → numberless (ticketed l j o) ≡ slotted j o
@@ -235,18 +239,24 @@ module _ {X : Type 0} (j : ℕ) (l m : Log X) (sized : length (l .slots) ≡ 32)
   heard-errand k reference delay action r a true t =
       let a′ : Step l (errand j reference delay action r) m = subst (λ n. Step l (errand n reference delay action r) m) (eqb-true k j t) a in
       let o = set-up-slot (l .moment) j (slot-of l j) reference delay (once-job action) in
-      let w = own-set-up reference delay (once-job action) true o refl (a′ .after) in
-      (refl, ap (λ (y : Result Ticket Fault). errand-told (numberless y)) (a′ .answer) ∙ ap (λ (y : Result Ticket Fault). errand-told y) (numberless-ticketed o),
-       w .0, w .1)
+      let w = own-set-up reference delay (once-job action) true o refl (a′ .after) in (
+        refl,
+        ap (λ (y : Result Ticket Fault). errand-told (numberless y)) (a′ .answer) ∙ ap (λ (y : Result Ticket Fault). errand-told y) (numberless-ticketed o),
+        w .0,
+        w .1,
+      )
   heard-errand k reference delay action r a false t = other-set-up k (once-job action) true _ (eqb-false k j t) (a .after)
 
   heard-call-off : (k : ℕ) (r : Result ℕ Fault) → Step l (call-off k r) m → (b : Bool) → eqb k j ≡ b
       → Heard (call-off k r) (when b (call asks-call-off (call-off-told r)))
   heard-call-off k r a true t =
       let a′ : Step l (call-off j r) m = subst (λ n. Step l (call-off n r) m) (eqb-true k j t) a in
-      let w = own-freed r (a′ .after) in
-      (refl, ap (λ (o : Result ℕ Fault). call-off-told o) (a′ .answer), w .0,
-       w .1 ∙ ap (λ (o : Result ℕ Fault). given-up o (slot-of l j)) (a′ .answer))
+      let w = own-freed r (a′ .after) in (
+        refl,
+        ap (λ (o : Result ℕ Fault). call-off-told o) (a′ .answer),
+        w .0,
+        w .1 ∙ ap (λ (o : Result ℕ Fault). given-up o (slot-of l j)) (a′ .answer),
+      )
   heard-call-off k r a false t = other-freed k r (eqb-false k j t) (a .after)
 
   foreign : (ticket : Ticket) (r : Result Outcome Fault) → r ≡ settle-answer l ticket → eqb (ticket .number) (l .number) ≡ false → m ≡ freed l (ticket .slot) r → m ≡ l
@@ -260,9 +270,12 @@ module _ {X : Type 0} (j : ℕ) (l m : Log X) (sized : length (l .slots) ≡ 32)
       let slot-j : ticket .slot ≡ j = eqb-true (ticket .slot) j (parts .0) in
       let answer-j : r ≡ settle-slot j (slot-of l j) =
       a .answer ∙ cond-true _ _ _ (parts .1) ∙ ap (λ n. settle-slot n (slot-of l n)) slot-j in
-      let w = own-freed r (a .after ∙ ap (λ n. freed l n r) slot-j) in
-      (refl, ap (λ (o : Result Outcome Fault). settle-told o) answer-j, w .0,
-       w .1 ∙ ap (λ (o : Result Outcome Fault). given-up o (slot-of l j)) answer-j)
+      let w = own-freed r (a .after ∙ ap (λ n. freed l n r) slot-j) in (
+        refl,
+        ap (λ (o : Result Outcome Fault). settle-told o) answer-j,
+        w .0,
+        w .1 ∙ ap (λ (o : Result Outcome Fault). given-up o (slot-of l j)) answer-j,
+      )
   heard-settle ticket r a false t = by (and-cases (eqb (ticket .slot) j) (eqb (ticket .number) (l .number)) t)
     where
       by : (eqb (ticket .slot) j ≡ false) ⊎ (eqb (ticket .number) (l .number) ≡ false) → (m .moment ≡ l .moment) × (slot-of m j ≡ slot-of l j)
@@ -298,9 +311,11 @@ module _ {X : Type 0} (j : ℕ) (l m : Log X) (sized : length (l .slots) ≡ 32)
       → Alone j (m .moment) (slot-of m j) os → Alone j (l .moment) (slot-of l j) (listed o os)
   heard-then e None os h rest alone =
       subst (λ n. Alone j n (slot-of l j) os) (h .0) (subst (λ (y : Slot). Alone j (m .moment) y os) (h .1) alone)
-  heard-then e (Some (call a b)) os h rest alone =
-      (rest (h .0), h .1,
-       subst (λ n. Alone j n (slot-by j (l .moment) (slot-of l j) a) os) (h .2) (subst (λ (y : Slot). Alone j (m .moment) y os) (h .3) alone))
+  heard-then e (Some (call a b)) os h rest alone = (
+    rest (h .0),
+    h .1,
+    subst (λ n. Alone j n (slot-by j (l .moment) (slot-of l j) a) os) (h .2) (subst (λ (y : Slot). Alone j (m .moment) y os) (h .3) alone),
+  )
   heard-then e (Some (report b)) os h rest alone =
       (h .0, subst (λ n. Alone j n (fired (slot-of l j)) os) (h .1) (subst (λ (y : Slot). Alone j (m .moment) y os) (h .2) alone))
 

@@ -149,8 +149,8 @@ module _ {X : Type 0} {j : ℕ} {l : Log X} {es : List (Event X)} (c : Course j 
 
       from : (o : Origin q (f .due) (f .action)) → (n : ℕ) × (q ≡ suc n) → q < length es → f .due ≤ s-at c q
           → (i : ℕ) × (p : ℕ) × (first : ℕ) × (job : Job) × SetUpAt j es i job first × DueMoment (job .kind) first (f .due)
-            × ReachedBy j es (l .moment) i (f .due) p × FirstEmptying es p q
-            × ReportedAt j es i (f .due) (job .action) q (f .at) × NoEnd j es i q
+          × ReachedBy j es (l .moment) i (f .due) p × FirstEmptying es p q
+          × ReportedAt j es i (f .due) (job .action) q (f .at) × NoEnd j es i q
       from o (n, qn) near due =
           let come : f .due ≤ moment-at es (l .moment) n = omega (arith, moment-before c n, ap (λ k. s-at c k) qn) in
           let r = reach (λ k. moment-at es (l .moment) k) (f .due) (n - o .place) (o .place) n (omega (arith, o .before)) come in

@@ -44,8 +44,8 @@ module _ {X : Type 0} (start j : ℕ) (es : List (Event X)) where
   Sound =
       (q : ℕ) (f : Firing) → At es q (next (Some f)) → f .slot ≡ j
       → (i : ℕ) × (p : ℕ) × (first : ℕ) × (job : Job) × SetUpAt j es i job first × DueMoment (job .kind) first (f .due)
-        × ReachedBy j es start i (f .due) p × FirstEmptying es p q
-        × ReportedAt j es i (f .due) (job .action) q (f .at) × NoEnd j es i q
+      × ReachedBy j es start i (f .due) p × FirstEmptying es p q
+      × ReportedAt j es i (f .due) (job .action) q (f .at) × NoEnd j es i q
 
   -- a due moment reached by a serve no later than hold last asked is reported at that very moment
   abbrev pub Timely : Type 0
@@ -73,4 +73,4 @@ Alike {X} {Y} l k =
     → Run l es l′ → Run k fs k′ → Emptied true es → Emptied true fs
     → brought (shared (l .number) j) es ≡ brought (shared (k .number) j) fs
     → (brought (seen (l .number) j) es ≡ brought (seen (k .number) j) fs)
-      × Kept (l .moment) j es (l .stack) × Kept (k .moment) j fs (k .stack)
+    × Kept (l .moment) j es (l .stack) × Kept (k .moment) j fs (k .stack)

@@ -27,12 +27,12 @@ returns-then-free g c =
     let k = view (g .D·Clock .meaning) (c .args .b .now) in
     let answer : eqb (c .moment .result) (c .moment-then-free .result) ≡ starts-alike l k =
     elim (c .if-all-free .came) [
-      then-all-free w ↦
-        by-moments _ _ _ _ _ _
-        (found _ _ _ _ (w .if-all-free .taken) (c .all-free .ensures) (c .slots .ensures .table))
-        (found _ _ _ _ (sym (w .free-is) ∙ c .if-free .taken) (w .all-free-free .ensures) (w .slots-then-all-free .ensures .table))
-        (c .moment .ensures) (c .moment-then-free .ensures)
-    | else-all-free w ↦ true-false (sym (c .if-free .taken) ∙ w .free-is ∙ w .if-all-free .left)
+      | then-all-free w ↦
+          by-moments _ _ _ _ _ _
+          (found _ _ _ _ (w .if-all-free .taken) (c .all-free .ensures) (c .slots .ensures .table))
+          (found _ _ _ _ (sym (w .free-is) ∙ c .if-free .taken) (w .all-free-free .ensures) (w .slots-then-all-free .ensures .table))
+          (c .moment .ensures) (c .moment-then-free .ensures)
+      | else-all-free w ↦ true-false (sym (c .if-free .taken) ∙ w .free-is ∙ w .if-all-free .left)
     ] in
     record {
       answer = answer;
@@ -49,12 +49,12 @@ returns-else-free g c =
     let answer : c .if-all-free .free ≡ starts-alike l k =
     c .if-free .left
     ∙ sym (elim (c .if-all-free .came) [
-      then-all-free w ↦
-        and-right (all-free (l .slots)) _
-        (and-left (all-free (k .slots)) _
-        (found _ _ _ _ (sym (w .free-is) ∙ c .if-free .left) (w .all-free-free .ensures) (w .slots-then-all-free .ensures .table)))
-    | else-all-free w ↦
-        and-left (all-free (l .slots)) _ (found _ _ _ _ (w .if-all-free .left) (c .all-free .ensures) (c .slots .ensures .table))
+      | then-all-free w ↦
+          and-right (all-free (l .slots)) _
+          (and-left (all-free (k .slots)) _
+          (found _ _ _ _ (sym (w .free-is) ∙ c .if-free .left) (w .all-free-free .ensures) (w .slots-then-all-free .ensures .table)))
+      | else-all-free w ↦
+          and-left (all-free (l .slots)) _ (found _ _ _ _ (w .if-all-free .left) (c .all-free .ensures) (c .slots .ensures .table))
     ]) in
     record {
       answer = answer;
