@@ -2,7 +2,6 @@
 use mathlib.Core.Path.{_≡_, refl, sym, ap, _∙_}
 use mathlib.Core.Bool.{Bool, true, false, cond}
 use mathlib.Core.List.{List, [], _∷_}
-use mathlib.Core.Logic.{_⊎_, inl, inr, ⊎-elim}
 use Prim.Native.Nat.{ℕ, zero, suc, _+_, _<_, _≤_}
 use native.Mathlib.Omega.{arith}
 use lib.Dec.{leb}
@@ -13,11 +12,11 @@ use Rattle.std.specs.declared.option.Option.the-variants.{Some, None}
 use Rattle.logger.specs.declared.jobs.Slot.{Slot}
 use Rattle.logger.specs.declared.jobs.Slot.the-variants.{Free, Standing, Waiting}
 use Rattle.logger.specs.declared.jobs.Firing.{Firing}
-use Rattle.logger.specs.State.{Log, slot-of}
+use Rattle.logger.specs.State.{Log}
 use Rattle.logger.specs.Slots.{coming, sooner, soonest}
-use Rattle.logger.specs.Calls.{if-due, next-answer, First, Quiet, NextLaw}
+use Rattle.logger.specs.Calls.{if-due, next-answer, NextLaw}
 
-never : {B : Type 0} {x : B} {C : Type 0} → None ≡ Some x → C
+pub never : {B : Type 0} {x : B} {C : Type 0} → None ≡ Some x → C
 never e = let z : _≡_ {A = ℕ} 0 1 = cc in absurd (omega arith)
 
 -- the number of a slot does not matter to when it is due

@@ -2,7 +2,7 @@
 -- Assumes nothing.
 use mathlib.Core.Path.{_≡_}
 use mathlib.Core.Bool.{Bool, true, false, cond}
-use mathlib.Core.List.{List, [], _∷_}
+use mathlib.Core.List.{[]}
 use mathlib.Core.Logic.{_⊎_}
 use Prim.Native.Nat.{ℕ, _+_, _-_, _^_, _<_, _≤_}
 use lib.Dec.{leb, eqb}
@@ -14,8 +14,7 @@ use Rattle.std.specs.declared.result.Result.the-variants.{Ok, Err}
 use Rattle.fault.specs.declared.Fault.{Fault}
 use Rattle.fault.specs.Table.{moment-limit, stray-sample, foreign-ticket}
 use Rattle.clock.specs.Meaning.{Meaning, advanced}
-use Rattle.clock.specs.Hold.{wait-for}
-use Rattle.logger.specs.declared.jobs.Slot.{Slot}
+use Rattle.clock.specs.Hold.{wait-for, Waits}
 use Rattle.logger.specs.declared.jobs.Slot.the-variants.{Free, Standing}
 use Rattle.logger.specs.declared.jobs.Job.{Job}
 use Rattle.logger.specs.declared.jobs.Action.{Action}
@@ -23,7 +22,7 @@ use Rattle.logger.specs.declared.jobs.Firing.{Firing}
 use Rattle.logger.specs.declared.ticket.Ticket.{Ticket}
 use Rattle.logger.specs.declared.ticket.Outcome.{Outcome}
 use Rattle.logger.specs.State.{Log, slot-of, with-slot}
-use Rattle.logger.specs.Slots.{once-job, set-up-slot, call-off-slot, settle-slot, fired, coming, soonest, nearest}
+use Rattle.logger.specs.Slots.{once-job, set-up-slot, call-off-slot, settle-slot, fired, coming, soonest, distance, nearest}
 
 -- a logger past this moment serves no more, so that the moment stays below 2^62
 abbrev pub last-served : ℕ
@@ -140,3 +139,15 @@ module _ {X : Type 0} (l : Log X) where
   abbrev pub NextLaw : Option Firing → Type 0
   NextLaw None = Quiet
   NextLaw (Some f) = First f
+
+  -- of the standing slots one is this far off, and none nearer
+  pub record Closest (left : ℕ) : Type 0 where
+    pub place : ℕ
+    pub stands : distance (l .moment) (slot-of l place) ≡ Some left
+    pub least : (k n : ℕ) → distance (l .moment) (slot-of l k) ≡ Some n → left ≤ n
+
+  -- the law of hold: the reach less one while no slot stands, nought while one is due, otherwise the wait for what is left to the closest
+  abbrev pub HoldLaw : ℕ → Type 0
+  HoldLaw n =
+      (((k : ℕ) → distance (l .moment) (slot-of l k) ≡ None) × (n ≡ l .stack .reach - 1))
+      ⊎ ((left : ℕ) × Closest left × (((left ≡ 0) × (n ≡ 0)) ⊎ ((0 < left) × Waits (l .stack) left n)))

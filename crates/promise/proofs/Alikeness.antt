@@ -1,20 +1,19 @@
 -- The promise about two loggers, from its parts. Assumes nothing.
-use mathlib.Core.Path.{_≡_, refl, sym, ap, subst, _∙_}
-use mathlib.Core.Bool.{Bool, true, false, not, _&&_}
+use mathlib.Core.Path.{_≡_, refl, sym, ap, _∙_}
+use mathlib.Core.Bool.{Bool, true, false, _&&_}
 use mathlib.Core.List.{List, [], _∷_}
-use Prim.Native.Nat.{ℕ, suc}
-use native.Mathlib.Omega.{arith}
+use Prim.Native.Nat.{ℕ}
 use lib.Dec.{T, eqb}
 use lib.ListN.{length, replicate}
 use Rattle.std.proofs.shelf.Tests.{and-parts, eqb-true}
-use Rattle.clock.specs.Meaning.{Meaning, Counts}
+use Rattle.clock.specs.Meaning.{Counts}
 use Rattle.logger.specs.declared.jobs.Slot.{Slot}
 use Rattle.logger.specs.declared.jobs.Slot.the-variants.{Free, Standing, Waiting}
-use Rattle.logger.specs.State.{Log, slot-of}
+use Rattle.logger.specs.State.{Log}
 use Rattle.promise.specs.Runs.{Event, Run, Emptied}
 use Rattle.promise.specs.Promise.{all-free, starts-alike, Kept, Alike}
 use Rattle.promise.proofs.Basics.{true-false}
-use Rattle.promise.proofs.Courses.{Course, course, free-start}
+use Rattle.promise.proofs.Courses.{course, free-start}
 use Rattle.promise.proofs.Completeness.{complete, unrepeated}
 use Rattle.promise.proofs.Soundness.{sound}
 use Rattle.promise.proofs.Measuring.{measured}

@@ -1,20 +1,19 @@
 -- What a step of a logger is to one of its slots. Assumes nothing.
 use mathlib.Core.Path.{_≡_, refl, sym, ap, subst, _∙_}
-use mathlib.Core.Bool.{Bool, true, false, cond, _&&_}
-use mathlib.Core.List.{List, [], _∷_}
-use mathlib.Core.Logic.{_⊎_, inl, inr, ⊎-elim}
-use Prim.Native.Nat.{ℕ, zero, suc, _+_, _-_, _<_, _≤_}
+use mathlib.Core.Bool.{Bool, true, false, cond}
+use mathlib.Core.Logic.{_⊎_, inl, inr}
+use Prim.Native.Nat.{ℕ, _+_, _<_, _≤_}
 use native.Mathlib.Omega.{arith}
-use lib.Dec.{ltb, leb, eqb}
-use lib.ListN.{length, getD, set}
+use lib.Dec.{ltb, eqb}
+use lib.ListN.{length, set}
 use Rattle.std.proofs.shelf.Lists.{getD-set-same, getD-set-other, getD-past, length-set}
-use Rattle.std.proofs.shelf.Tests.{ltb-true, ltb-false, leb-true, eqb-true, eqb-false, and-parts, cases-lt}
+use Rattle.std.proofs.shelf.Tests.{ltb-false, leb-true, eqb-true, eqb-false, and-parts, cases-lt}
 use Rattle.std.specs.declared.option.Option.{Option}
 use Rattle.std.specs.declared.option.Option.the-variants.{Some, None}
 use Rattle.std.specs.declared.result.Result.{Result}
 use Rattle.std.specs.declared.result.Result.the-variants.{Ok, Err}
 use Rattle.fault.specs.declared.Fault.{Fault}
-use Rattle.fault.specs.Table.{no-slot, slot-taken, reference-ahead, slot-limits, foreign-ticket}
+use Rattle.fault.specs.Table.{no-slot, slot-taken, reference-ahead, slot-limits}
 use Rattle.logger.specs.declared.jobs.Slot.{Slot}
 use Rattle.logger.specs.declared.jobs.Slot.the-variants.{Free, Standing, Waiting}
 use Rattle.logger.specs.declared.jobs.Job.{Job}
@@ -25,12 +24,12 @@ use Rattle.logger.specs.declared.jobs.Firing.{Firing}
 use Rattle.logger.specs.declared.ticket.Ticket.{Ticket}
 use Rattle.logger.specs.declared.ticket.Outcome.{Outcome}
 use Rattle.logger.specs.State.{Log, slot-of, with-slot}
-use Rattle.logger.specs.Slots.{kind-fits, action-fits, job-fits, once-job, taken, set-up-slot, call-off-slot, settle-slot, coming, fired}
-use Rattle.logger.specs.Calls.{served, after-set-up, ticketed, settle-answer, freed, next-answer, after-next, Accepted, Refused, SetUp, Erranded, CalledOff, Settled, Nexted, Held, NextLaw, First, Quiet}
+use Rattle.logger.specs.Slots.{kind-fits, job-fits, once-job, taken, set-up-slot, coming, fired}
+use Rattle.logger.specs.Calls.{after-set-up, ticketed, NextLaw, First, Quiet}
 use Rattle.logger.proofs.Soonest.{next-law}
 use Rattle.promise.specs.Runs.{Event, serve, set-up, errand, call-off, settle, next, hold, Step, is-next, emptied-by}
-use Rattle.promise.specs.Words.{when, own-ticket, sets, ends}
-use Rattle.promise.proofs.Basics.{none-some, some-same, true-false, ok-err, ok-same}
+use Rattle.promise.specs.Words.{sets, ends}
+use Rattle.promise.proofs.Basics.{true-false, ok-err, ok-same}
 use Rattle.promise.proofs.Firings.{kind-by, Steady}
 
 -- nothing of the slot is due at moment s

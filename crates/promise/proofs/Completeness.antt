@@ -1,32 +1,30 @@
 -- Every due moment reached is reported in the first emptying after, and once only. Assumes nothing.
 use mathlib.Core.Path.{_≡_, refl, sym, ap, subst, _∙_}
 use mathlib.Core.Bool.{Bool, true, false, _||_}
-use mathlib.Core.List.{List, [], _∷_}
-use mathlib.Core.Logic.{_⊎_, inl, inr, ⊎-elim}
-use Prim.Native.Nat.{ℕ, zero, suc, _+_, _-_, _<_, _≤_}
+use mathlib.Core.List.{List}
+use mathlib.Core.Logic.{_⊎_, inl, inr}
+use Prim.Native.Nat.{ℕ, zero, suc, _+_, _<_, _≤_}
 use native.Mathlib.Omega.{arith}
 use lib.Dec.{T}
-use lib.ListN.{length, take}
+use lib.ListN.{length}
 use Rattle.std.proofs.shelf.Tests.{cases-lt, cases-eq, cases-order}
 use Rattle.std.specs.declared.option.Option.{Option}
 use Rattle.std.specs.declared.option.Option.the-variants.{Some, None}
-use Rattle.std.specs.declared.result.Result.the-variants.{Ok, Err}
-use Rattle.logger.specs.declared.jobs.Slot.{Slot}
-use Rattle.logger.specs.declared.jobs.Slot.the-variants.{Free, Standing, Waiting}
+use Rattle.std.specs.declared.result.Result.the-variants.{Ok}
 use Rattle.logger.specs.declared.jobs.Job.{Job}
 use Rattle.logger.specs.declared.jobs.Action.{Action}
 use Rattle.logger.specs.declared.jobs.Firing.{Firing}
-use Rattle.logger.specs.State.{Log, slot-of}
+use Rattle.logger.specs.State.{Log}
 use Rattle.logger.specs.Slots.{coming, fired}
 use Rattle.logger.proofs.Soonest.{coming-at, coming-slot}
 use Rattle.promise.specs.Runs.{Event, serve, set-up, errand, call-off, settle, next, hold, is-next, emptied-by}
-use Rattle.promise.specs.Words.{sets, ends, DueMoment, moment-at, At, FirstEmptying, NoSetUp, NoEnd, SetUpAt, ReachedBy, ReportedAt}
+use Rattle.promise.specs.Words.{sets, DueMoment, At, FirstEmptying, NoSetUp, SetUpAt, ReachedBy, ReportedAt}
 use Rattle.promise.specs.Promise.{Complete, Unrepeated}
 use Rattle.promise.proofs.Basics.{none-some, some-none, some-same, true-false, there, within}
-use Rattle.promise.proofs.Firings.{kind-by, Promises, SteadySlot, comes, fired-keeps, fired-later}
-use Rattle.promise.proofs.Changes.{Change, same, moves, starts, ended, fires, Rests, no-next}
+use Rattle.promise.proofs.Firings.{Promises, SteadySlot, comes, fired-keeps, fired-later}
+use Rattle.promise.proofs.Changes.{same, moves, starts, ended, fires, no-next}
 use Rattle.promise.proofs.Courses.{Course}
-use Rattle.promise.proofs.Standing.{s-at, slot-at, ChangeAt, rests, steady, Stood, stood, stands, kept-slot, moment-before, not-reached}
+use Rattle.promise.proofs.Standing.{s-at, slot-at, ChangeAt, steady, stood, stands, kept-slot, moment-before, not-reached}
 
 next-form : {X : Type 0} (e : Event X) → is-next e ≡ true → (r : Option Firing) × (e ≡ next r)
 next-form (serve d x r) h = true-false (sym h)

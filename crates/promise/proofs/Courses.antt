@@ -1,25 +1,21 @@
 -- The course of a run: the log before each event, whether it is emptied there, and how both go from event to event. Assumes nothing.
-use mathlib.Core.Path.{_≡_, refl, sym, ap, subst, _∙_}
-use mathlib.Core.Bool.{Bool, true, false, _||_}
+use mathlib.Core.Path.{_≡_, refl, ap, subst, _∙_}
+use mathlib.Core.Bool.{Bool, true, _||_}
 use mathlib.Core.List.{List, [], _∷_}
-use Prim.Native.Nat.{ℕ, zero, suc, _+_, _-_, _<_, _≤_}
-use native.Mathlib.Omega.{arith}
+use Prim.Native.Nat.{ℕ, zero, suc, _<_, _≤_}
 use lib.Dec.{T}
 use lib.ListN.{length, take, replicate}
-use Rattle.std.specs.shelf.Maps.{nth}
-use Rattle.std.proofs.shelf.Lists.{length-replicate, getD-replicate, getD-past}
+use Rattle.std.proofs.shelf.Lists.{getD-replicate, getD-past}
 use Rattle.std.proofs.shelf.Tests.{cases-lt}
 use mathlib.Core.Logic.{_⊎_, inl, inr}
-use Rattle.std.specs.declared.option.Option.{Option}
-use Rattle.std.specs.declared.option.Option.the-variants.{Some, None}
 use Rattle.logger.specs.declared.jobs.Slot.{Slot}
 use Rattle.logger.specs.declared.jobs.Slot.the-variants.{Free}
 use Rattle.logger.specs.State.{Log, slot-of}
 use Rattle.promise.specs.Runs.{Event, Run, done, then, Step, is-next, emptied-by, Emptied}
-use Rattle.promise.specs.Words.{reading, moved, moment-after, moment-at, At}
+use Rattle.promise.specs.Words.{moment-after, At}
 use Rattle.promise.proofs.Basics.{none-some, some-same}
 use Rattle.promise.proofs.Changes.{Change, changed}
-use Rattle.promise.proofs.Frames.{Frame, framed}
+use Rattle.promise.proofs.Frames.{framed}
 
 module _ {X : Type 0} where
   -- the log before the event at n, or at the end

@@ -5,11 +5,9 @@ use Prim.Native.Nat.{ℕ, zero, suc, _+_, _-_, _*_, _<_, _≤_}
 use native.Mathlib.Omega.{arith}
 use lib.Dec.{ltb}
 use Rattle.std.proofs.shelf.Tests.{lt-ltb, ltb-true}
-use Rattle.std.specs.declared.option.Option.{Option}
-use Rattle.std.specs.declared.option.Option.the-variants.{Some, None}
+use Rattle.std.specs.declared.option.Option.the-variants.{Some}
 use Rattle.logger.specs.declared.jobs.Slot.{Slot}
 use Rattle.logger.specs.declared.jobs.Slot.the-variants.{Free, Standing, Waiting}
-use Rattle.logger.specs.declared.jobs.Job.{Job}
 use Rattle.logger.specs.declared.jobs.Kind.{Kind}
 use Rattle.logger.specs.declared.jobs.Kind.the-variants.{Once, Every, Burst}
 use Rattle.logger.specs.declared.jobs.Action.{Action}

@@ -1,21 +1,20 @@
 -- How the stack's measure goes on with accepted serves. Assumes nothing.
 use mathlib.Core.Path.{_≡_, refl, sym, ap, subst, _∙_}
 use mathlib.Core.List.{List, [], _∷_}
-use Prim.Native.Nat.{ℕ, zero, suc, _+_, _-_, _<_, _≤_}
+use Prim.Native.Nat.{ℕ, zero, suc, _+_, _-_, _≤_}
 use native.Mathlib.Omega.{arith}
-use native.Mathlib.Nat.{add-assoc, add-zero}
-use native.Mathlib.Numerals.{add-one}
+use native.Mathlib.Nat.{add-zero}
 use lib.ListN.{length, take}
 use Rattle.std.specs.declared.option.Option.{Option}
 use Rattle.std.specs.declared.option.Option.the-variants.{Some, None}
-use Rattle.std.specs.declared.result.Result.the-variants.{Ok, Err}
-use Rattle.clock.specs.Meaning.{Meaning, Counts, advanced}
+use Rattle.std.specs.declared.result.Result.the-variants.{Ok}
+use Rattle.clock.specs.Meaning.{Meaning, Counts}
 use Rattle.logger.specs.State.{Log}
 use Rattle.promise.specs.Runs.{Event, serve}
-use Rattle.promise.specs.Words.{Reading, reading, moved, passed, true-ticks, moment-after, At}
+use Rattle.promise.specs.Words.{Reading, reading, passed, true-ticks, At}
 use Rattle.promise.specs.Promise.{Measured}
 use Rattle.promise.proofs.Basics.{none-some, some-same, there, within}
-use Rattle.promise.proofs.Frames.{Frame, framed, stack-by, gained}
+use Rattle.promise.proofs.Frames.{framed, stack-by, gained}
 use Rattle.promise.proofs.Courses.{Course}
 
 module _ {g : ℕ → ℕ} (c : Counts g) where

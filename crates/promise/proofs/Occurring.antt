@@ -1,15 +1,11 @@
 -- The example's runs are runs. Assumes nothing.
-use mathlib.Core.Path.{_≡_, refl, sym, ap, _∙_}
-use mathlib.Core.Logic.{_⊎_, inl, inr}
-use mathlib.Core.List.{List, [], _∷_}
-use Prim.Native.Nat.{ℕ, zero, suc, _+_, _%_, _^_, _<_, _≤_}
+use mathlib.Core.Path.{_≡_, refl, sym, ap}
+use mathlib.Core.Logic.{inr}
+use Prim.Native.Nat.{ℕ, zero, suc, _+_, _%_, _<_, _≤_}
 use native.Mathlib.Omega.{arith}
-use native.Mathlib.Nat.{mod-lt}
-use Rattle.std.specs.declared.option.Option.{Option}
-use Rattle.std.specs.declared.option.Option.the-variants.{Some, None}
 use Rattle.clock.specs.Hold.{first-from}
 use Rattle.clock.specs.declared.up.Word.{Word}
-use Rattle.promise.specs.Runs.{Run, done, then, Emptied, Event}
+use Rattle.promise.specs.Runs.{Run, done, then, Event}
 use Rattle.promise.specs.Example.{left-log, left-run, right-log, right-run, Occurs, Occurring}
 use Rattle.logger.specs.State.{Log}
 use Rattle.promise.specs.Words.{sets, ends, moment-at, NoSetUp, NoEnd}

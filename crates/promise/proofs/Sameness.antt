@@ -1,9 +1,9 @@
 -- What is seen of a slot is told by what is asked of it: one slot alone, between the moments read, has one course. Assumes nothing.
 use mathlib.Core.Path.{_≡_, refl, sym, ap, subst, _∙_}
-use mathlib.Core.Bool.{Bool, true, false, cond, _||_, _&&_}
+use mathlib.Core.Bool.{Bool, true, false, _||_}
 use mathlib.Core.List.{List, [], _∷_}
-use mathlib.Core.Logic.{_⊎_, inl, inr, ⊎-elim}
-use Prim.Native.Nat.{ℕ, _+_, _<_, _≤_}
+use mathlib.Core.Logic.{_⊎_, inl, inr}
+use Prim.Native.Nat.{ℕ, _≤_}
 use native.Mathlib.Omega.{arith}
 use lib.Dec.{T, eqb}
 use lib.ListN.{length}
@@ -13,9 +13,8 @@ use Rattle.std.specs.declared.option.Option.the-variants.{Some, None}
 use Rattle.std.specs.declared.result.Result.{Result}
 use Rattle.std.specs.declared.result.Result.the-variants.{Ok, Err}
 use Rattle.fault.specs.declared.Fault.{Fault}
-use Rattle.fault.specs.Table.{foreign-ticket}
 use Rattle.logger.specs.declared.jobs.Slot.{Slot}
-use Rattle.logger.specs.declared.jobs.Slot.the-variants.{Free, Standing, Waiting}
+use Rattle.logger.specs.declared.jobs.Slot.the-variants.{Free, Standing}
 use Rattle.logger.specs.declared.jobs.Job.{Job}
 use Rattle.logger.specs.declared.jobs.Action.{Action}
 use Rattle.logger.specs.declared.jobs.Firing.{Firing}

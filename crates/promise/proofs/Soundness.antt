@@ -1,32 +1,28 @@
 -- Every report is of a due moment that was reached, of the slot's last set-up. Assumes nothing.
 use mathlib.Core.Path.{_≡_, refl, sym, ap, subst, _∙_}
-use mathlib.Core.Bool.{Bool, true, false}
-use mathlib.Core.List.{List, [], _∷_}
+use mathlib.Core.Bool.{false}
+use mathlib.Core.List.{List}
 use mathlib.Core.Logic.{_⊎_, inl, inr, ⊎-elim}
 use Prim.Native.Nat.{ℕ, zero, suc, _+_, _-_, _<_, _≤_}
 use native.Mathlib.Omega.{arith}
-use native.Mathlib.Nat.{add-suc, suc-add, add-zero}
 use lib.ListN.{length}
 use Rattle.std.proofs.shelf.Tests.{cases-lt, cases-eq}
-use Rattle.std.specs.declared.option.Option.{Option}
 use Rattle.std.specs.declared.option.Option.the-variants.{Some, None}
 use Rattle.logger.specs.declared.jobs.Slot.{Slot}
-use Rattle.logger.specs.declared.jobs.Slot.the-variants.{Free, Standing, Waiting}
+use Rattle.logger.specs.declared.jobs.Slot.the-variants.{Free, Standing}
 use Rattle.logger.specs.declared.jobs.Job.{Job}
 use Rattle.logger.specs.declared.jobs.Action.{Action}
 use Rattle.logger.specs.declared.jobs.Firing.{Firing}
 use Rattle.logger.specs.State.{Log}
-use Rattle.logger.specs.Slots.{coming, fired}
-use Rattle.logger.proofs.Soonest.{coming-at}
 use Rattle.promise.specs.Runs.{Event, next}
 use Rattle.promise.specs.Words.{sets, ends, DueMoment, moment-at, At, FirstEmptying, NoSetUp, NoEnd, SetUpAt, ReachedBy, ReportedAt}
 use Rattle.promise.specs.Promise.{Sound}
-use Rattle.promise.proofs.Basics.{none-some, some-same, there, within}
+use Rattle.promise.proofs.Basics.{some-same, there, within}
 use Rattle.promise.proofs.Firings.{Promises, promises-now, fired-from}
-use Rattle.promise.proofs.Changes.{Change, same, moves, starts, ended, fires}
+use Rattle.promise.proofs.Changes.{same, moves, starts, ended, fires}
 use Rattle.promise.proofs.Courses.{Course}
 use Rattle.promise.proofs.Standing.{s-at, slot-at, ChangeAt, steady, moment-before}
-use Rattle.promise.proofs.Completeness.{firing-is, fired-at, told, unrepeated}
+use Rattle.promise.proofs.Completeness.{firing-is, fired-at, Told, told, unrepeated}
 
 -- the first number from i on at which g has come to u
 pub record Reach (g : ℕ → ℕ) (u i n : ℕ) : Type 0 where
@@ -136,6 +132,14 @@ module _ {X : Type 0} {j : ℕ} {l : Log X} {es : List (Event X)} (c : Course j 
       let e = there es n (omega arith) in
       origin-next n u action (e .0) (e .1) (origin n (omega arith) action u) (c .change n (e .0) (e .1)) promised
 
+  -- the one report of a due moment reached lies in the first emptying after
+  in-first : (i p first u q s : ℕ) (job : Job) → SetUpAt j es i job first → DueMoment (job .kind) first u → ReachedBy j es (l .moment) i u p
+      → ReportedAt j es i u (job .action) q s → FirstEmptying es p q
+  in-first i p first u q s job set due reached report = by (told c i p first u job set due reached)
+    where
+      by : Told c i p u (job .action) → FirstEmptying es p q
+      by t = subst (λ k. FirstEmptying es p k) (unrepeated c i first u (t .place) (s-at c (suc p)) q s job set (t .report) report) (t .first)
+
   pub sound : Sound (l .moment) j es
   sound q f reports own =
       let w = fired-at c q f reports own in
@@ -165,7 +169,15 @@ module _ {X : Type 0} {j : ℕ} {l : Log X} {es : List (Event X)} (c : Course j 
             after = o .before;
             answer = reports ∙ ap (λ (y : Firing). Some (next (Some y))) (firing-is f j (f .due) (f .at) (o .job .action) own refl refl (sym (o .asked)));
             own = o .own;
-          } in
-          let t = told c (o .place) (r .place) (o .first) (f .due) (o .job) (o .set) (o .due) reached in
-          let same-place : t .place ≡ q = unrepeated c (o .place) (o .first) (f .due) (t .place) _ q (f .at) (o .job) (o .set) (t .report) report in
-          (o .place, r .place, o .first, o .job, o .set, o .due, reached, subst (λ k. FirstEmptying es (r .place) k) same-place (t .first), report, o .stood)
+          } in (
+            o .place,
+            r .place,
+            o .first,
+            o .job,
+            o .set,
+            o .due,
+            reached,
+            in-first (o .place) (r .place) (o .first) (f .due) q (f .at) (o .job) (o .set) (o .due) reached report,
+            report,
+            o .stood,
+          )

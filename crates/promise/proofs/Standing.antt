@@ -1,28 +1,23 @@
 -- What holds all along a course: an emptied logger has nothing due, periods are at least a tick, and a promise stands until it is reached. Assumes nothing.
 use mathlib.Core.Path.{_≡_, refl, sym, ap, subst, _∙_}
-use mathlib.Core.Bool.{Bool, true, false, _||_}
-use mathlib.Core.List.{List, [], _∷_}
+use mathlib.Core.Bool.{Bool, true, false}
+use mathlib.Core.List.{List}
 use mathlib.Core.Logic.{_⊎_, inl, inr, ⊎-elim}
-use Prim.Native.Nat.{ℕ, zero, suc, _+_, _-_, _<_, _≤_}
+use Prim.Native.Nat.{ℕ, zero, suc, _<_, _≤_}
 use native.Mathlib.Omega.{arith}
-use lib.Dec.{T}
-use lib.ListN.{length, take}
-use Rattle.std.proofs.shelf.Tests.{cases-lt, cases-eq}
-use Rattle.std.specs.declared.option.Option.{Option}
+use lib.ListN.{length}
+use Rattle.std.proofs.shelf.Tests.{cases-eq}
 use Rattle.std.specs.declared.option.Option.the-variants.{Some, None}
-use Rattle.std.specs.declared.result.Result.{Result}
 use Rattle.std.specs.declared.result.Result.the-variants.{Ok, Err}
 use Rattle.logger.specs.declared.jobs.Slot.{Slot}
-use Rattle.logger.specs.declared.jobs.Slot.the-variants.{Free, Standing, Waiting}
+use Rattle.logger.specs.declared.jobs.Slot.the-variants.{Free, Standing}
 use Rattle.logger.specs.declared.jobs.Job.{Job}
 use Rattle.logger.specs.declared.jobs.Action.{Action}
-use Rattle.logger.specs.declared.jobs.Firing.{Firing}
 use Rattle.logger.specs.State.{Log, slot-of}
-use Rattle.logger.specs.Slots.{coming, fired}
-use Rattle.promise.specs.Runs.{Event, serve, set-up, errand, call-off, settle, next, hold, is-next, emptied-by}
-use Rattle.promise.specs.Words.{sets, ends, moment-at, At, NoSetUp, NoEnd, SetUpAt, ReachedBy}
-use Rattle.promise.proofs.Basics.{none-some, some-none, some-same, true-false, there}
-use Rattle.promise.proofs.Firings.{kind-by, Promises, Steady, SteadySlot, fired-keeps, fired-steady}
+use Rattle.promise.specs.Runs.{Event, serve, set-up, errand, call-off, settle, next, hold, emptied-by}
+use Rattle.promise.specs.Words.{sets, moment-at, At, NoEnd, SetUpAt, ReachedBy}
+use Rattle.promise.proofs.Basics.{none-some, some-same, true-false, there}
+use Rattle.promise.proofs.Firings.{kind-by, Promises, SteadySlot, fired-keeps, fired-steady}
 use Rattle.promise.proofs.Changes.{Change, same, moves, starts, ended, fires, Rests}
 use Rattle.promise.proofs.Courses.{Course}
 

@@ -1,38 +1,36 @@
 -- A serve no later than hold asked passes no due moment by. Assumes nothing.
 use mathlib.Core.Path.{_≡_, refl, sym, ap, subst, _∙_}
 use mathlib.Core.Bool.{Bool, true, false, cond, _||_}
-use mathlib.Core.List.{List, [], _∷_}
-use mathlib.Core.Logic.{_⊎_, inl, inr, ⊎-elim}
-use Prim.Native.Nat.{ℕ, zero, suc, min, _+_, _-_, _<_, _≤_}
+use mathlib.Core.List.{List}
+use mathlib.Core.Logic.{_⊎_, inl, inr}
+use Prim.Native.Nat.{ℕ, zero, suc, _+_, _-_, _<_, _≤_}
 use native.Mathlib.Omega.{arith}
-use native.Mathlib.Numerals.{add-one}
 use lib.Dec.{T, eqb}
 use lib.ListN.{length, getD}
-use Rattle.std.proofs.shelf.Tests.{cases-lt, cases-eq, eqb-true}
+use Rattle.std.proofs.shelf.Tests.{cases-lt, cases-eq}
 use Rattle.std.specs.declared.option.Option.{Option}
 use Rattle.std.specs.declared.option.Option.the-variants.{Some, None}
-use Rattle.std.specs.declared.result.Result.the-variants.{Ok, Err}
+use Rattle.std.specs.declared.result.Result.the-variants.{Ok}
 use Rattle.clock.specs.Meaning.{Meaning, Counts}
-use Rattle.clock.specs.Hold.{wait-for, Waits, Least, Never}
+use Rattle.clock.specs.Hold.{wait-for, Waits}
 use Rattle.clock.proofs.Waiting.{waits}
 use Rattle.logger.specs.declared.jobs.Slot.{Slot}
 use Rattle.logger.specs.declared.jobs.Slot.the-variants.{Free, Standing, Waiting}
-use Rattle.logger.specs.declared.jobs.Job.{Job}
-use Rattle.logger.specs.declared.jobs.Action.{Action}
 use Rattle.logger.specs.declared.jobs.Firing.{Firing}
 use Rattle.logger.specs.State.{Log, slot-of}
-use Rattle.logger.specs.Slots.{coming, distance, nearer, nearest}
-use Rattle.logger.specs.Calls.{held-for, hold-answer, Held, Accepted}
-use Rattle.promise.specs.Runs.{Event, serve, next, hold, is-next, emptied-by}
-use Rattle.promise.specs.Words.{DueMoment, At, AsHeld, SetUpAt, ReachedBy, ReportedAt, FirstEmptying, reading}
+use Rattle.logger.specs.Slots.{coming, distance, nearest}
+use Rattle.logger.specs.Calls.{held-for, Held, Accepted}
+use Rattle.logger.proofs.Nearest.{Answer, answered}
+use Rattle.promise.specs.Runs.{Event, serve, next, hold}
+use Rattle.promise.specs.Words.{At, AsHeld, SetUpAt, ReportedAt}
 use Rattle.promise.specs.Promise.{Timely}
 use Rattle.promise.proofs.Basics.{none-some, some-same, true-false, there, within}
-use Rattle.promise.proofs.Firings.{Promises, comes}
-use Rattle.promise.proofs.Changes.{Change, same, moves, starts, ended, fires, Rests, no-next}
-use Rattle.promise.proofs.Frames.{Frame, framed}
+use Rattle.promise.proofs.Firings.{comes}
+use Rattle.promise.proofs.Changes.{same, moves, starts, ended, fires, Rests}
+use Rattle.promise.proofs.Frames.{framed}
 use Rattle.promise.proofs.Courses.{Course}
 use Rattle.promise.proofs.Standing.{s-at, slot-at, ChangeAt, rests, stood, stands, not-reached, moment-before}
-use Rattle.promise.proofs.Completeness.{base, told, Told}
+use Rattle.promise.proofs.Completeness.{base, told}
 use Rattle.promise.proofs.Measuring.{counts}
 
 -- the nearest distance is at most that of each standing slot
@@ -41,33 +39,17 @@ pub record Near (s : ℕ) (slots : List Slot) (due : ℕ) : Type 0 where
   pub is : nearest s slots ≡ Some left
   pub low : left ≤ due - s
 
-pub near : (s : ℕ) (slots : List Slot) (j due : ℕ) (f : Firing) → coming s j (getD slots j Free) ≡ Some f → f .due ≡ due → Near s slots due
-near s slots j due f = go slots j j
+distance-of : (s m : ℕ) (slot : Slot) (f : Firing) → coming s m slot ≡ Some f → distance s slot ≡ Some (f .due - s)
+distance-of s m Free f co = none-some co
+distance-of s m (Standing due job b) f co = ap (λ (y : Firing). Some (y .due - s)) (some-same co)
+distance-of s m (Waiting due) f co = none-some co
+
+pub near : (s : ℕ) (slots : List Slot) (j : ℕ) (f : Firing) → coming s j (getD slots j Free) ≡ Some f → Near s slots (f .due)
+near s slots j f co = by (nearest s slots) refl (answered s slots)
   where
-    first : (m : ℕ) (slot : Slot) (o : Option ℕ) → coming s m slot ≡ Some f → f .due ≡ due
-        → (left : ℕ) × (nearer (distance s slot) o ≡ Some left) × (left ≤ due - s)
-    first m Free o co is = none-some co
-    first m (Standing at-due job b) None co is =
-        let e : at-due ≡ f .due = ap (λ (y : Firing). y .due) (some-same co) in
-        (at-due - s, refl, omega arith)
-    first m (Standing at-due job b) (Some n) co is =
-        let e : at-due ≡ f .due = ap (λ (y : Firing). y .due) (some-same co) in
-        (min (at-due - s) n, refl, omega arith)
-    first m (Waiting at-due) o co is = none-some co
-
-    further : (d o : Option ℕ) (left : ℕ) → o ≡ Some left → left ≤ due - s → (left′ : ℕ) × (nearer d o ≡ Some left′) × (left′ ≤ due - s)
-    further None o left e low = (left, e, low)
-    further (Some d) None left e low = none-some e
-    further (Some d) (Some n) left e low = let same-left : n ≡ left = some-same e in (min d n, refl, omega arith)
-
-    go : (slots : List Slot) (k m : ℕ) → coming s m (getD slots k Free) ≡ Some f → f .due ≡ due → Near s slots due
-    go [] k m co is = none-some co
-    go (slot ∷ slots) zero m co is =
-        let r = first m slot (nearest s slots) co is in record { left = r .0; is = r .1; low = r .2 }
-    go (slot ∷ slots) (suc k) m co is =
-        let n = go slots k m co is in
-        let r = further (distance s slot) (nearest s slots) (n .left) (n .is) (n .low) in
-        record { left = r .0; is = r .1; low = r .2 }
+    by : (o : Option ℕ) → nearest s slots ≡ o → Answer s slots o → Near s slots (f .due)
+    by None e a = none-some (sym (a j) ∙ distance-of s j (getD slots j Free) f co)
+    by (Some left) e a = record { left = left; is = e; low = a .least j (f .due - s) (distance-of s j (getD slots j Free) f co) }
 
 -- where the measure stays below up to n, it has come no further than there at n
 low-to : (g : ℕ → ℕ) → Counts g → (left n : ℕ) → ((d : ℕ) → d < n → g d < left) → (d : ℕ) → d ≤ n → g d ≤ left
@@ -153,7 +135,7 @@ module _ {X : Type 0} {j : ℕ} {l : Log X} {es : List (Event X)} (c : Course j 
       let near-end : p < length es = within es p (serve d sample (Ok t)) here in
       let u = unchanged h p (held .answer) (held .held) (held .between) p (held .before) (omega arith) in
       let co′ : coming (s-at c h) j (slot-at c h) ≡ Some g = subst (λ k. coming k j (slot-at c h) ≡ Some g) (u .moment) (subst (λ (y : Slot). coming (s-at c p) j y ≡ Some g) (u .slot) co) in
-      let n = near (s-at c h) (c .state h .slots) j (g .due) g co′ refl in
+      let n = near (s-at c h) (c .state h .slots) j g co′ in
       let a : Held (c .state h) (held .answer) (c .state (suc h)) = c .step h (hold (held .answer)) (held .held) in
       let asked : held .answer ≡ held-for (c .state h .stack) (Some (n .left)) = a .answer ∙ ap (λ (o : Option ℕ). held-for (c .state h .stack) o) (n .is) in
       let b : Accepted (c .state p) d sample t (c .state (suc p)) = c .step p (serve d sample (Ok t)) here in

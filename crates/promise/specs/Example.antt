@@ -15,10 +15,9 @@ use Rattle.logger.specs.declared.jobs.Job.{Job}
 use Rattle.logger.specs.declared.jobs.Kind.the-variants.{Once, Every}
 use Rattle.logger.specs.declared.jobs.Action.the-variants.{Read, Mark}
 use Rattle.logger.specs.declared.jobs.Firing.{Firing}
-use Rattle.logger.specs.declared.ticket.Ticket.{Ticket}
 use Rattle.logger.specs.State.{Log}
-use Rattle.promise.specs.Runs.{Event, serve, set-up, errand, call-off, settle, next, hold, Run, Emptied}
-use Rattle.promise.specs.Words.{brought, shared, DueMoment, At, AsHeld, SetUpAt, ReachedBy, ReportedAt}
+use Rattle.promise.specs.Runs.{Event, serve, set-up, call-off, settle, next, hold, Run, Emptied}
+use Rattle.promise.specs.Words.{brought, shared, DueMoment, AsHeld, SetUpAt, ReachedBy, ReportedAt}
 use Rattle.promise.specs.Promise.{starts-alike}
 
 abbrev word : ℕ → Word

@@ -1,9 +1,9 @@
 -- The promise about two loggers that start alike and share the moments read and one slot's calls.
 -- Assumes nothing.
 use mathlib.Core.Path.{_≡_}
-use mathlib.Core.Bool.{Bool, true, false, not, _&&_}
+use mathlib.Core.Bool.{Bool, true, not, _&&_}
 use mathlib.Core.List.{List, [], _∷_}
-use Prim.Native.Nat.{ℕ, suc, _+_, _<_}
+use Prim.Native.Nat.{ℕ, suc, _+_}
 use lib.Dec.{eqb}
 use lib.ListN.{take}
 use Rattle.std.specs.declared.option.Option.the-variants.{Some}
@@ -15,7 +15,7 @@ use Rattle.logger.specs.declared.jobs.Firing.{Firing}
 use Rattle.logger.specs.State.{Log}
 use Rattle.logger.specs.Slots.{taken}
 use Rattle.promise.specs.Runs.{Event, serve, next, Run, Emptied}
-use Rattle.promise.specs.Words.{brought, shared, seen, DueMoment, true-ticks, At, FirstEmptying, AsHeld, SetUpAt, NoSetUp, NoEnd, ReachedBy, ReportedAt}
+use Rattle.promise.specs.Words.{brought, shared, seen, DueMoment, true-ticks, At, FirstEmptying, AsHeld, SetUpAt, NoEnd, ReachedBy, ReportedAt}
 
 abbrev pub all-free : List Slot → Bool
 all-free [] = true
