@@ -1,5 +1,5 @@
 -- The law of hold: the distance that it waits for is the smallest of the standing slots. Assumes nothing.
-use mathlib.Core.Path.{_≡_, refl, sym, _∙_}
+use mathlib.Core.Path.{_≡_, refl, sym, ap, _∙_}
 use mathlib.Core.Bool.{Bool, true, false, cond}
 use mathlib.Core.List.{List, [], _∷_}
 use mathlib.Core.Logic.{_⊎_, inl, inr}
@@ -80,3 +80,27 @@ hold-law l = by (nearest (l .moment) (l .slots)) (answered (l .moment) (l .slots
     by : (o : Option ℕ) → Answer (l .moment) (l .slots) o → HoldLaw l (held-for (l .stack) o)
     by None a = inl (a, refl)
     by (Some left) a = inr (left, record { place = a .place; stands = a .stands; least = a .least }, wait left (eqb left 0) refl)
+
+-- the law leaves one distance only
+pub smallest-is : (s : ℕ) (slots : List Slot) (left : ℕ) → Smallest s slots left → nearest s slots ≡ Some left
+smallest-is s slots left a = by (nearest s slots) (answered s slots)
+  where
+    by : (o : Option ℕ) → Answer s slots o → o ≡ Some left
+    by None b = never (sym (b (a .place)) ∙ a .stands)
+    by (Some n) b =
+        let same-left : n ≡ left = omega (arith, a .least (b .place) n (b .stands), b .least (a .place) left (a .stands)) in
+        ap (λ k. Some k) same-left
+
+pub none-stands : (s : ℕ) (slots : List Slot) → ((k : ℕ) → distance s (getD slots k Free) ≡ None) → nearest s slots ≡ None
+none-stands s slots none = by (nearest s slots) (answered s slots)
+  where
+    by : (o : Option ℕ) → Answer s slots o → o ≡ None
+    by None b = refl
+    by (Some n) b = never (sym (none (b .place)) ∙ b .stands)
+
+-- so that a table can be gone through from the front
+pub nearer-assoc : (a b c : Option ℕ) → nearer (nearer a b) c ≡ nearer a (nearer b c)
+nearer-assoc None b c = refl
+nearer-assoc (Some m) None c = refl
+nearer-assoc (Some m) (Some n) None = refl
+nearer-assoc (Some m) (Some n) (Some k) = let same-min : min (min m n) k ≡ min m (min n k) = omega arith in ap (λ i. Some i) same-min

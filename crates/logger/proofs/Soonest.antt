@@ -2,19 +2,20 @@
 use mathlib.Core.Path.{_≡_, refl, sym, ap, _∙_}
 use mathlib.Core.Bool.{Bool, true, false, cond}
 use mathlib.Core.List.{List, [], _∷_}
+use mathlib.Core.Logic.{_⊎_, inl, inr}
 use Prim.Native.Nat.{ℕ, zero, suc, _+_, _<_, _≤_}
 use native.Mathlib.Omega.{arith}
 use lib.Dec.{leb}
 use lib.ListN.{length, getD}
-use Rattle.std.proofs.shelf.Tests.{leb-true, leb-false}
+use Rattle.std.proofs.shelf.Tests.{leb-true, leb-false, cases-order}
 use Rattle.std.specs.declared.option.Option.{Option}
 use Rattle.std.specs.declared.option.Option.the-variants.{Some, None}
 use Rattle.logger.specs.declared.jobs.Slot.{Slot}
 use Rattle.logger.specs.declared.jobs.Slot.the-variants.{Free, Standing, Waiting}
 use Rattle.logger.specs.declared.jobs.Firing.{Firing}
-use Rattle.logger.specs.State.{Log}
+use Rattle.logger.specs.State.{Log, slot-of}
 use Rattle.logger.specs.Slots.{coming, sooner, soonest}
-use Rattle.logger.specs.Calls.{if-due, next-answer, NextLaw}
+use Rattle.logger.specs.Calls.{if-due, next-answer, First, Quiet, NextLaw}
 
 pub never : {B : Type 0} {x : B} {C : Type 0} → None ≡ Some x → C
 never e = let z : _≡_ {A = ℕ} 0 1 = cc in absurd (omega arith)
@@ -132,3 +133,30 @@ next-law l = by (soonest (l .moment) 0 (l .slots)) (answered (l .moment) 0 (l .s
     by : (o : Option Firing) → Answer (l .moment) 0 (l .slots) o → NextLaw l (if-due o)
     by None a = λ k g e. never (sym (a k k) ∙ e)
     by (Some f) best = due f best (leb (f .due) (f .at)) refl
+
+-- and the law leaves one answer only: what is first is what next answers, and none where nothing is due
+module _ {X : Type 0} (l : Log X) where
+  one-first : (f g : Firing) → First l f → First l g → f ≡ g
+  one-first f g a b = some-is (sym (a .stands) ∙ ap (λ n. coming (l .moment) n (slot-of l n)) (same-slot (cases-order (f .slot) (g .slot))) ∙ b .stands)
+    where
+      some-is : Some f ≡ Some g → f ≡ g
+      some-is e = cc
+
+      same-slot : (f .slot ≡ g .slot) ⊎ ((f .slot < g .slot) ⊎ (g .slot < f .slot)) → f .slot ≡ g .slot
+      same-slot (inl e) = e
+      same-slot (inr (inl h)) = absurd (omega (arith, b .lowest (f .slot) f h (a .stands), a .least (g .slot) g (b .stands)))
+      same-slot (inr (inr h)) = absurd (omega (arith, a .lowest (g .slot) g h (b .stands), b .least (f .slot) f (a .stands)))
+
+  pub first-is : (f : Firing) → First l f → next-answer l ≡ Some f
+  first-is f a = by (next-answer l) (next-law l)
+    where
+      by : (o : Option Firing) → NextLaw l o → o ≡ Some f
+      by None quiet = absurd (omega (arith, quiet (f .slot) f (a .stands), a .due))
+      by (Some g) b = ap (λ (y : Firing). Some y) (one-first g f b a)
+
+  pub quiet-is : Quiet l → next-answer l ≡ None
+  quiet-is quiet = by (next-answer l) (next-law l)
+    where
+      by : (o : Option Firing) → NextLaw l o → o ≡ None
+      by None a = refl
+      by (Some g) b = absurd (omega (arith, quiet (g .slot) g (b .stands), b .due))
