@@ -1,0 +1,2 @@
+pub mod Soonest
+pub mod Nearest
