@@ -97,11 +97,6 @@ reached-from s j (Standing due job errand) f p h =
     omega (arith, ap (λ (x : Firing). x .due) same)
 reached-from s j (Waiting due) f p h = tt
 
-pub reached-by : (s t : ℕ) (slot : Slot) → s ≤ t → Reached s slot → Reached t slot
-reached-by s t Free h r = tt
-reached-by s t (Standing due job errand) h r = omega arith
-reached-by s t (Waiting due) h r = tt
-
 module _ {X : Type 0} (l : Log X) where
   taken : (f : Firing) → Best (l .moment) 0 (l .slots) f → soonest (l .moment) 0 (l .slots) ≡ Some f
       → (b : Bool) → leb (f .due) (l .moment) ≡ b → Next l (cond b (Some (f .slot)) None)

@@ -6,3 +6,4 @@ pub mod Dues
 pub mod Agenda
 pub mod Within
 pub mod Making
+pub mod Look

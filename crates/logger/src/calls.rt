@@ -1,7 +1,9 @@
 // The calls of a logger. A refused call changes nothing, but that a ticket is spent.
 ghost use mathlib.Core.Path.{_≡_};
 ghost use mathlib.Core.Bool.{true};
-ghost use Prim.Native.Nat.{ℕ, _<_};
+ghost use Prim.Native.Nat.{ℕ, _^_, _<_};
+ghost use Rattle.std.specs.Vec.{made};
+ghost use Rattle.clock.specs.Calls.{Taken};
 ghost use Rattle.logger.specs.State.{view, slot-of, with-slot};
 ghost use Rattle.logger.specs.Calls.{after-set-up, Served, SetUp, Erranded, CalledOff, Settled, Nexted, NextLaw, Held};
 ghost use Rattle.logger.specs.Dues.{planned, ready};
@@ -30,6 +32,14 @@ use store::Due;
 
 // The last moment at which a sample is still taken, 2^62 - 2^32: a sample brings fewer than 2^32 ticks.
 const LAST_SERVED: u64 = 4_611_686_014_132_420_608;
+
+// The ticks that a sample brings, fewer than 2^32 since they are no more than the true ticks.
+fn taken<A: Alarm>(alarm: &mut A, sample: A::Sample) -> Result<u64, Fault>
+    ensures taken { λ r. ⌜ Taken (A·Clock .meaning (now (alarm .entry))) (A·Alarm .appointment (now (alarm .entry))) sample r (A·Clock .meaning (now (alarm .exit))) (A·Alarm .appointment (now (alarm .exit))) ⌝ }
+    ensures few { λ r. ⌜ made r (λ n. n < 2 ^ 32) ⌝ }
+{
+    alarm.take(sample)
+}
 
 impl<A: Alarm> Logger<A> {
     // A logger over the alarm: its moment is the start, and its slots are free.
@@ -84,7 +94,8 @@ impl<A: Alarm> Logger<A> {
         if self.moment > LAST_SERVED {
             return Err(Fault::in_logger(Cause::MomentLimit));
         }
-        self.moment += self.alarm.take(sample)?;
+        let gained = taken(&mut self.alarm, sample)?;
+        self.moment += gained;
         Ok(self.moment)
     }
 
@@ -133,9 +144,9 @@ impl<A: Alarm> Logger<A> {
         ensures law { λ r. ⌜ NextLaw (view (A·Clock .meaning) (now (self .entry))) r ⌝ }
     {
         let slot = self.ready()?;
-        let state = self.state(slot);
-        self.put(slot, state.fired());
-        state.coming(self.moment, slot)
+        let (firing, after) = self.state(slot).fire(self.moment, slot);
+        self.put(slot, after);
+        firing
     }
 
     // How many true ticks may pass before the next sample, so that the next firing comes on its moment.

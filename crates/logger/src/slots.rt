@@ -127,35 +127,30 @@ impl Slot {
         }
     }
 
-    pub(crate) fn fired(self) -> Slot
-        requires { ⌜ slot-fits self ≡ true ⌝ ∗ ⌜ Reached (2 ^ 62) self ⌝ }
-        ensures { λ r. ⌜ r ≡ fired self ⌝ }
+    // Fires a slot that is due: what `next` answers at this moment, and the state that it leaves.
+    pub(crate) fn fire(self, moment: u64, slot: usize) -> (Option<Firing>, Slot)
+        requires limits { ⌜ slot-fits self ≡ true ⌝ }
+        requires reached { ⌜ Reached moment self ⌝ }
+        requires early { ⌜ moment < 2 ^ 62 ⌝ }
+        ensures { λ r. ⌜ r ≡ (coming moment slot self, fired self) ⌝ }
     {
         match self {
-            Slot::Free => Slot::Free,
+            Slot::Free => (None, Slot::Free),
             Slot::Standing { due, job, errand } => {
-                if errand {
+                let firing = Firing {
+                    slot,
+                    due,
+                    at: moment,
+                    action: job.action,
+                };
+                let after = if errand {
                     Slot::Waiting { due }
                 } else {
                     job.again(due)
-                }
+                };
+                (Some(firing), after)
             }
-            Slot::Waiting { due } => Slot::Waiting { due },
-        }
-    }
-
-    // The firing that is to come, as `next` answers it at this moment.
-    pub(crate) fn coming(self, moment: u64, slot: usize) -> Option<Firing>
-        ensures { λ r. ⌜ r ≡ coming moment slot self ⌝ }
-    {
-        match self {
-            Slot::Standing { due, job, .. } => Some(Firing {
-                slot,
-                due,
-                at: moment,
-                action: job.action,
-            }),
-            Slot::Free | Slot::Waiting { .. } => None,
+            Slot::Waiting { due } => (None, Slot::Waiting { due }),
         }
     }
 

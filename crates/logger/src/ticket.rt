@@ -10,6 +10,22 @@ pub struct Ticket {
     pub(crate) spent: bool,
 }
 
+impl Ticket {
+    // The number of the logger that gave it.
+    pub fn number(&self) -> u16
+        ensures { λ r. ⌜ r ≡ now (self .entry) .number ⌝ }
+    {
+        self.number
+    }
+
+    // The slot of its errand.
+    pub fn slot(&self) -> usize
+        ensures { λ r. ⌜ r ≡ now (self .entry) .slot ⌝ }
+    {
+        self.slot
+    }
+}
+
 impl Drop for Ticket {
     fn drop(self)
         requires { ⌜ self .spent ≡ true ⌝ }

@@ -8,7 +8,7 @@ use Rattle.logger.specs.Slots.{fired, coming}
 use Rattle.logger.specs.Calls.{next-answer, after-next, NextLaw}
 use Rattle.logger.specs.Within.{slot-fits, Reached}
 use Rattle.logger.proofs.Fitting.{fits-at, fits-fired}
-use Rattle.logger.proofs.Least.{Taken, none-ready, one-ready, reached-by}
+use Rattle.logger.proofs.Least.{Taken, none-ready, one-ready}
 use Rattle.logger.proofs.Soonest.{next-law}
 use Rattle.logger.proofs.logger.Logger.next.Needs as need
 
@@ -22,16 +22,17 @@ returns-in-Break-slot g c =
       law = subst (NextLaw l) (sym told) (next-law l);
     }
 
-pub fired-requires : need.fired-requires
-fired-requires g c κs =
+pub fire-firing-requires : need.fire-firing-requires
+fire-firing-requires g c κs =
     let s = c .args .self .now in
     let l = view (g .A·Clock .meaning) s in
     let j = c .in-Continue-slot .slot in
     let taken = one-ready l j (sym (c .ready .ensures) ∙ c .in-Continue-slot .was tt) in
-    let early : s .moment < 2 ^ 62 = s .early in (
-      ap slot-fits (c .state-state .ensures) ∙ fits-at (s .slots) j (s .limits),
-      subst (Reached (2 ^ 62)) (sym (c .state-state .ensures)) (reached-by (s .moment) (2 ^ 62) (slot-of l j) (omega arith) (taken .reached)),
-    )
+    record {
+      limits = ap slot-fits (c .state .ensures) ∙ fits-at (s .slots) j (s .limits);
+      reached = subst (Reached (s .moment)) (sym (c .state .ensures)) (taken .reached);
+      early = s .early;
+    }
 
 pub put-requires : need.put-requires
 put-requires g c κs =
@@ -39,9 +40,10 @@ put-requires g c κs =
     let l = view (g .A·Clock .meaning) s in
     let j = c .in-Continue-slot .slot in
     let taken = one-ready l j (sym (c .ready .ensures) ∙ c .in-Continue-slot .was tt) in
+    let state : c .fire-firing .result .1 ≡ fired (slot-of l j) = ap (λ r. r .1) (c .fire-firing .ensures) ∙ ap fired (c .state .ensures) in
     record {
       place = omega (arith, taken .within, s .table);
-      limits = ap slot-fits (c .fired .ensures ∙ ap fired (c .state-state .ensures)) ∙ fits-fired (slot-of l j) (fits-at (s .slots) j (s .limits));
+      limits = ap slot-fits state ∙ fits-fired (slot-of l j) (fits-at (s .slots) j (s .limits));
     }
 
 pub returns : need.returns
@@ -49,17 +51,10 @@ returns g c =
     let l = view (g .A·Clock .meaning) (c .args .self .now) in
     let j = c .in-Continue-slot .slot in
     let taken = one-ready l j (sym (c .ready .ensures) ∙ c .in-Continue-slot .was tt) in
-    let same : c .put .last .self .moment ≡ l .moment = ap (λ (x : Log (g .A·Sample .Denot)). x .moment) (c .put .ensures) in
-    let told : c .coming .result ≡ next-answer l =
-    c .coming .ensures ∙ ap (λ s. coming s j (c .state-state .result)) same ∙ ap (coming (l .moment) j) (c .state-state .ensures) ∙ taken .answer in
+    let state : c .fire-firing .result .1 ≡ fired (slot-of l j) = ap (λ r. r .1) (c .fire-firing .ensures) ∙ ap fired (c .state .ensures) in
+    let told : c .fire-firing .result .0 ≡ next-answer l =
+    ap (λ r. r .0) (c .fire-firing .ensures) ∙ ap (coming (l .moment) j) (c .state .ensures) ∙ taken .answer in
     record {
-      answer = record {
-        answer = told;
-        after =
-            c .put .ensures
-            ∙ ap (with-slot l j) (c .fired .ensures ∙ ap fired (c .state-state .ensures))
-            ∙ taken .after
-            ∙ sym (ap (after-next l) told);
-      };
+      answer = record { answer = told; after = c .put .ensures ∙ ap (with-slot l j) state ∙ taken .after ∙ sym (ap (after-next l) told) };
       law = subst (NextLaw l) (sym told) (next-law l);
     }
