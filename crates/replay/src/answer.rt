@@ -3,6 +3,9 @@ ghost use Rattle.std.specs.declared.option.Option.the-variants.{Some};
 ghost use Rattle.replay.specs.Text.{answer-text};
 use fault::Fault;
 use fault::FaultDisplay;
+use logger::jobs::Action;
+use logger::jobs::Firing;
+use logger::ticket::Outcome;
 use std::fmt;
 
 #[derive(Clone, Copy)]
@@ -18,6 +21,19 @@ pub enum Answer {
     Stopped(bool),
     Claimed(Option<u64>),
     Hold(u64),
+    // a logger stands over the clock
+    LoggerReady,
+    // the moment
+    Served(u64),
+    SetUp,
+    // a ticket is held for this slot
+    Ticket(usize),
+    Settled(Outcome),
+    NoTicket,
+    // the moment at which the job would have been due
+    CalledOff(u64),
+    Fired(Firing),
+    NoneDue,
     Refused(Fault),
     NoClock,
     // the number of the line
@@ -44,6 +60,27 @@ pub impl fmt::Display for Answer as AnswerDisplay {
                 None => write!(f, "claimed none"),
             },
             Answer::Hold(ticks) => write!(f, "hold {ticks}"),
+            Answer::LoggerReady => write!(f, "logger ready"),
+            Answer::Served(moment) => write!(f, "served {moment}"),
+            Answer::SetUp => write!(f, "set up"),
+            Answer::Ticket(slot) => write!(f, "ticket {slot}"),
+            Answer::Settled(outcome) => {
+                let due = outcome.due;
+                let word = if outcome.fired { "yes" } else { "no" };
+                write!(f, "settled {due} {word}")
+            }
+            Answer::NoTicket => write!(f, "no ticket"),
+            Answer::CalledOff(due) => write!(f, "called off {due}"),
+            Answer::Fired(firing) => {
+                let slot = firing.slot;
+                let due = firing.due;
+                let at = firing.at;
+                match firing.action {
+                    Action::Read { channel } => write!(f, "fired {slot} {due} {at} read {channel}"),
+                    Action::Mark => write!(f, "fired {slot} {due} {at} mark"),
+                }
+            }
+            Answer::NoneDue => write!(f, "none"),
             Answer::Refused(fault) => write!(f, "{fault}"),
             Answer::NoClock => write!(f, "no clock yet"),
             Answer::NotUnderstood(line) => write!(f, "line {line} not understood"),

@@ -48,6 +48,10 @@ impl Lines {
         self.number
     }
 
+    pub fn heap(&self) -> Global {
+        self.rt.alloc()
+    }
+
     pub fn print(&self, answer: Answer) -> io::Result<()> {
         println!(self.rt, "{answer}")
     }

@@ -3,9 +3,12 @@ mod answer;
 mod call;
 mod command;
 mod lines;
+mod log;
+mod logcall;
 mod plan;
 mod raw;
 mod stack;
+mod tickets;
 
 use answer::Answer;
 use command::Command;
@@ -33,7 +36,7 @@ fn first_stack(lines: &mut Lines) -> io::Result<Option<Stack>> {
         }
         let answer = match Command::parse(lines.text()) {
             None => Answer::NotUnderstood(lines.number()),
-            Some(Command::Ask(_)) => Answer::NoClock,
+            Some(Command::Ask(_) | Command::Log(_) | Command::Logger { .. }) => Answer::NoClock,
             Some(Command::Build(plan)) => match Stack::build(plan) {
                 Ok(stack) => {
                     lines.print(Answer::Ready)?;

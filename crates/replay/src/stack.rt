@@ -4,6 +4,7 @@ use crate::call;
 use crate::call::Call;
 use crate::command::Command;
 use crate::lines::Lines;
+use crate::log;
 use crate::plan;
 use crate::plan::Device;
 use crate::plan::Plan;
@@ -29,6 +30,8 @@ use clock::widening::WideningAlarm;
 use clock::widening::WideningClock;
 use fault::Cause;
 use fault::Fault;
+use logger::logger::Logger;
+use logger::moment::Moment;
 use std::io;
 
 // A stack that was accepted: its device, and the settings of its layers, the lowest first.
@@ -152,6 +155,14 @@ fn answer_lines<X: Raw, A: Alarm<Sample = X> + Drop>(
         let answer = match Command::parse(lines.text()) {
             None => Answer::NotUnderstood(lines.number()),
             Some(Command::Ask(call)) => ask(&mut alarm, tag, call),
+            Some(Command::Log(_)) => Answer::NotUnderstood(lines.number()),
+            Some(Command::Logger { number, start }) => match Moment::new(start) {
+                Ok(start) => {
+                    lines.print(Answer::LoggerReady)?;
+                    return log::answer_lines(Logger::new(alarm, number, start), tag, lines);
+                }
+                Err(fault) => Answer::Refused(fault),
+            },
             Some(Command::Build(plan)) => match Stack::build(plan) {
                 Ok(stack) => {
                     lines.print(Answer::Ready)?;
