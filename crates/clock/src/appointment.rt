@@ -2,7 +2,8 @@
 ghost use mathlib.Core.Path.{_≡_};
 ghost use Prim.Native.Nat.{_^_, _<_, _≤_};
 ghost use Rattle.clock.specs.Appointment.{Sound, Possible, after-take, placed, setting, told, left-by, stops, claims, after-claim, table};
-ghost use Rattle.clock.specs.declared.appointment.Appointment.the-variants.{Idle};
+ghost use Rattle.clock.specs.declared.appointment.Appointment.the-variants.{Idle, Standing};
+ghost use Rattle.clock.specs.declared.appointment.Event.the-variants.{Take, Set};
 use crate::wrap;
 use fault::Cause;
 use fault::Fault;
@@ -19,20 +20,27 @@ pub enum Appointment {
 // What can happen to an appointment.
 #[derive(Clone, Copy)]
 pub enum Event {
-    // a clock of this width gained ticks, from this reading on
-    Take {
-        width: u32,
-        from: u64,
-        gained: u64,
-    },
-    Set {
-        width: u32,
-        reading: u64,
-        reference: u64,
-        delay: u64,
-    },
+    Take(Gain),
+    Set(Request),
     Stop,
     Claim,
+}
+
+// A clock of this width gained ticks, from this reading on.
+#[derive(Clone, Copy)]
+pub struct Gain {
+    pub width: u32,
+    pub from: u64,
+    pub gained: u64,
+}
+
+// An appointment is wanted, on a clock of this width and reading, a delay after a reference.
+#[derive(Clone, Copy)]
+pub struct Request {
+    pub width: u32,
+    pub reading: u64,
+    pub reference: u64,
+    pub delay: u64,
 }
 
 #[derive(Clone, Copy)]
@@ -52,56 +60,43 @@ impl Appointment {
         ensures { λ r. ⌜ r ≡ table self event ⌝ }
     {
         match (self, event) {
-            (Appointment::Idle, Event::Take { .. }) => (Appointment::Idle, Reply::Kept),
-            (
-                Appointment::Standing(left),
-                Event::Take {
-                    width,
-                    from,
-                    gained,
-                },
-            ) => {
-                if gained < left {
-                    (Appointment::Standing(left - gained), Reply::Kept)
-                } else {
-                    (Appointment::Due(wrap::sum(width, from, left)), Reply::Kept)
-                }
-            }
-            (Appointment::Due(point), Event::Take { .. }) => (Appointment::Due(point), Reply::Kept),
-            (
-                Appointment::Idle,
-                Event::Set {
-                    width,
-                    reading,
-                    reference,
-                    delay,
-                },
-            ) => {
-                (
-                    Appointment::placed(width, reading, reference, delay),
-                    Reply::Kept,
-                )
-            }
-            (Appointment::Standing(left), Event::Set { .. }) => (
-                Appointment::Standing(left),
-                Reply::Refused,
-            ),
-            (Appointment::Due(point), Event::Set { .. }) => (
-                Appointment::Due(point),
-                Reply::Refused,
-            ),
-            (Appointment::Idle, Event::Stop) => (Appointment::Idle, Reply::Stopped(false)),
-            (Appointment::Standing(_), Event::Stop) => (Appointment::Idle, Reply::Stopped(true)),
-            (Appointment::Due(_), Event::Stop) => (Appointment::Idle, Reply::Stopped(true)),
-            (Appointment::Idle, Event::Claim) => (Appointment::Idle, Reply::Claimed(None)),
-            (Appointment::Standing(left), Event::Claim) => (
-                Appointment::Standing(left),
-                Reply::Claimed(None),
-            ),
-            (Appointment::Due(point), Event::Claim) => (
-                Appointment::Idle,
-                Reply::Claimed(Some(point)),
-            ),
+            (Self::Idle, Event::Take(_)) => (Self::Idle, Reply::Kept),
+            (Self::Standing(left), Event::Take(gain)) => (Self::run_down(left, gain), Reply::Kept),
+            (Self::Due(point), Event::Take(_)) => (Self::Due(point), Reply::Kept),
+            (Self::Idle, Event::Set(request)) => (Self::placed(request), Reply::Kept),
+            (Self::Standing(left), Event::Set(_)) => (Self::Standing(left), Reply::Refused),
+            (Self::Due(point), Event::Set(_)) => (Self::Due(point), Reply::Refused),
+            (Self::Idle, Event::Stop) => (Self::Idle, Reply::Stopped(false)),
+            (Self::Standing(_), Event::Stop) => (Self::Idle, Reply::Stopped(true)),
+            (Self::Due(_), Event::Stop) => (Self::Idle, Reply::Stopped(true)),
+            (Self::Idle, Event::Claim) => (Self::Idle, Reply::Claimed(None)),
+            (Self::Standing(left), Event::Claim) => (Self::Standing(left), Reply::Claimed(None)),
+            (Self::Due(point), Event::Claim) => (Self::Idle, Reply::Claimed(Some(point))),
+        }
+    }
+
+    // A standing appointment falls due where all that was left has passed.
+    fn run_down(left: u64, gain: Gain) -> Appointment
+        requires { ⌜ Possible (Standing left) (Take gain) ⌝ }
+        ensures { λ r. ⌜ r ≡ after-take (gain .width) (gain .from) (gain .gained) (Standing left) ⌝ }
+    {
+        if gain.gained < left {
+            Self::Standing(left - gain.gained)
+        } else {
+            Self::Due(wrap::sum(gain.width, gain.from, left))
+        }
+    }
+
+    // A new appointment: it stands if the delay is longer than the reference is old.
+    fn placed(request: Request) -> Appointment
+        requires { ⌜ Possible Idle (Set request) ⌝ }
+        ensures { λ r. ⌜ r ≡ placed (request .width) (request .reading) (request .reference) (request .delay) ⌝ }
+    {
+        let age = wrap::difference(request.width, request.reading, request.reference);
+        if age < request.delay {
+            Self::Standing(request.delay - age)
+        } else {
+            Self::Due(wrap::sum(request.width, request.reference, request.delay))
         }
     }
 
@@ -111,11 +106,12 @@ impl Appointment {
         ensures after { λ _. ⌜ now (self .exit) ≡ after-take width from gained (now (self .entry)) ⌝ }
         ensures sound { λ _. ⌜ Sound width (now (self .exit)) ⌝ }
     {
-        let (next, _) = self.respond(Event::Take {
+        let gain = Gain {
             width,
             from,
             gained,
-        });
+        };
+        let (next, _) = self.respond(Event::Take(gain));
         *self = next;
     }
 
@@ -136,12 +132,13 @@ impl Appointment {
         if reference >= turn || delay >= turn {
             return Err(Fault::in_alarm(Cause::OutOfLimits));
         }
-        let (next, reply) = self.respond(Event::Set {
+        let request = Request {
             width,
             reading,
             reference,
             delay,
-        });
+        };
+        let (next, reply) = self.respond(Event::Set(request));
         *self = next;
         match reply {
             Reply::Refused => Err(Fault::in_alarm(Cause::Taken)),
@@ -172,19 +169,6 @@ impl Appointment {
         match reply {
             Reply::Claimed(point) => point,
             _ => None,
-        }
-    }
-
-    // A new appointment: it stands if the delay is longer than the reference is old.
-    fn placed(width: u32, reading: u64, reference: u64, delay: u64) -> Appointment
-        requires { ⌜ width ≤ 48 ⌝ ∗ ⌜ reading < 2 ^ width ⌝ ∗ ⌜ reference < 2 ^ width ⌝ ∗ ⌜ delay < 2 ^ width ⌝ }
-        ensures { λ r. ⌜ r ≡ placed width reading reference delay ⌝ }
-    {
-        let age = wrap::difference(width, reading, reference);
-        if age < delay {
-            Appointment::Standing(delay - age)
-        } else {
-            Appointment::Due(wrap::sum(width, reference, delay))
         }
     }
 }

@@ -2,7 +2,10 @@
 ghost use mathlib.Core.Path.{_≡_};
 ghost use Prim.Native.Nat.{_^_, _<_, _≤_};
 ghost use Rattle.clock.specs.Appointment.{Sound};
+ghost use Rattle.clock.specs.Calls.{Accepted};
+ghost use Rattle.clock.specs.Hold.{wait-for};
 ghost use Rattle.clock.specs.Making.{seen};
+ghost use Rattle.clock.specs.Wrap.{minus};
 ghost use Rattle.clock.specs.Up.{up-meaning, up-made};
 use crate::alarm::Alarm;
 use crate::alarm::Clock;
@@ -48,6 +51,25 @@ impl UpCounter {
     }
 }
 
+impl UpCounter {
+    // Moves on to a sample that the counter can show, this many ticks after the last.
+    fn accept(&mut self, sample: Word, gained: u64)
+        requires { ⌜ sample .0 < 2 ^ now self .width ⌝ ∗ ⌜ gained ≡ minus (now self .width) (sample .0) (now self .last) ⌝ }
+        ensures { λ _. ⌜ Accepted (up-meaning (now (self .entry) .width) (now (self .entry) .last) (now (self .entry) .tag)) (now (self .entry) .appointment) sample gained (up-meaning (now (self .exit) .width) (now (self .exit) .last) (now (self .exit) .tag)) (now (self .exit) .appointment) ⌝ }
+    {
+        let from = u64::from(self.last);
+        self.last = sample.0;
+        self.appointment.take(self.width, from, gained);
+    }
+
+    // A tick of this clock is a true tick.
+    fn wait(&self, left: u64) -> u64
+        ensures { λ r. ⌜ r ≡ wait-for (up-meaning (now (self .entry) .width) (now (self .entry) .last) (now (self .entry) .tag)) left ⌝ }
+    {
+        left.min(wrap::turn(self.width) - 1)
+    }
+}
+
 pub impl Clock for UpCounter as UpClock {
     type Sample = Word;
 
@@ -74,10 +96,8 @@ pub impl Alarm for UpCounter as UpAlarm {
         if shown >= wrap::turn(self.width) {
             return Err(Fault::in_device(Cause::StraySample, self.tag));
         }
-        let from = u64::from(self.last);
-        let gained = wrap::difference(self.width, shown, from);
-        self.last = sample.0;
-        self.appointment.take(self.width, from, gained);
+        let gained = wrap::difference(self.width, shown, u64::from(self.last));
+        self.accept(sample, gained);
         Ok(gained)
     }
 
@@ -95,11 +115,9 @@ pub impl Alarm for UpCounter as UpAlarm {
     }
 
     fn hold(&mut self) -> u64 {
-        let most = wrap::turn(self.width) - 1;
         match self.appointment {
-            Appointment::Idle => most,
-            // a tick of the clock is a true tick
-            Appointment::Standing(left) => left.min(most),
+            Appointment::Idle => wrap::turn(self.width) - 1,
+            Appointment::Standing(left) => self.wait(left),
             Appointment::Due(_) => 0,
         }
     }

@@ -78,74 +78,52 @@ impl Cause {
 }
 
 impl Fault {
+    fn at(cause: Cause, part: Part, place: Place) -> Fault
+        ensures { λ r. ⌜ r ≡ record { cause = cause; part = part; place = place } ⌝ }
+    {
+        Fault { cause, part, place }
+    }
+
     pub fn in_device(cause: Cause, tag: u8) -> Fault
         ensures { λ r. ⌜ r ≡ in-device cause tag ⌝ }
     {
-        Fault {
-            cause,
-            part: Part::Device,
-            place: Place::Tag(tag),
-        }
+        Fault::at(cause, Part::Device, Place::Tag(tag))
     }
 
     pub fn in_alarm(cause: Cause) -> Fault
         ensures { λ r. ⌜ r ≡ in-alarm cause ⌝ }
     {
-        Fault {
-            cause,
-            part: Part::Alarm,
-            place: Place::Nought,
-        }
+        Fault::at(cause, Part::Alarm, Place::Nought)
     }
 
     pub fn in_logger(cause: Cause) -> Fault
         ensures { λ r. ⌜ r ≡ in-logger cause ⌝ }
     {
-        Fault {
-            cause,
-            part: Part::Logger,
-            place: Place::Nought,
-        }
+        Fault::at(cause, Part::Logger, Place::Nought)
     }
 
     pub fn in_slot(cause: Cause, slot: usize) -> Fault
         ensures { λ r. ⌜ r ≡ in-slot cause slot ⌝ }
     {
-        Fault {
-            cause,
-            part: Part::Logger,
-            place: Place::Slot(slot),
-        }
+        Fault::at(cause, Part::Logger, Place::Slot(slot))
     }
 
     pub fn in_script(cause: Cause, line: usize, byte: usize) -> Fault
         ensures { λ r. ⌜ r ≡ in-script cause line byte ⌝ }
     {
-        Fault {
-            cause,
-            part: Part::Script,
-            place: Place::Line { line, byte },
-        }
+        Fault::at(cause, Part::Script, Place::Line { line, byte })
     }
 
     pub fn in_book(cause: Cause, length: usize) -> Fault
         ensures { λ r. ⌜ r ≡ in-book cause length ⌝ }
     {
-        Fault {
-            cause,
-            part: Part::Book,
-            place: Place::Length(length),
-        }
+        Fault::at(cause, Part::Book, Place::Length(length))
     }
 
     pub fn in_lead(cause: Cause) -> Fault
         ensures { λ r. ⌜ r ≡ in-lead cause ⌝ }
     {
-        Fault {
-            cause,
-            part: Part::Lead,
-            place: Place::Nought,
-        }
+        Fault::at(cause, Part::Lead, Place::Nought)
     }
 }
 

@@ -25,11 +25,14 @@ returns-then-left-eq0 g c =
 
 pub returns-in-Ok : need.returns-in-Ok
 returns-in-Ok g c =
-    let m = g .A·Clock .meaning (c .args .alarm .now) in
+    let at = g .A·Clock .meaning in
+    let is = g .A·Alarm .appointment in
+    let m = at (c .args .alarm .now) in
     let law = g .A·Clock·met .lawful (c .args .alarm .now) in
     let some : 0 < c .args .left = omega arith in
     let answer : c .hold-wait .result ≡ wait-for m (c .args .left) =
-    held m _ _ _ _ _ _ _ (c .args .left) law (c .stop .ensures) (c .reading-reading .ensures) _ _ _ some (c .in-Ok .ensures tt) (c .hold-wait .ensures) in
+    held m _ _ _ _ _ _ _ (c .args .left) law (c .stop .ensures) (c .reading-reading .ensures) (c .hold-wait .result)
+    (at (c .hold-wait .last .self)) (is (c .hold-wait .last .self)) some (c .in-Ok .ensures tt) (c .hold-wait .ensures) in
     record {
       answer = answer;
       least = lawful-wait m (c .args .left) (c .hold-wait .result) answer;
