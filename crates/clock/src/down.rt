@@ -17,7 +17,7 @@ use fault::Fault;
 #[derive(Clone, Copy, PartialEq, Eq, Debug)]
 pub struct Count(pub u32);
 
-// The reading grows as the count falls, so that a reading means the same as that of any other clock.
+// The counts repeat after a round, so the reading is kept apart from them. It grows as the count falls.
 const WIDTH: u32 = 32;
 
 #[derive(Drop)]
@@ -54,9 +54,7 @@ impl DownCounter {
             appointment: Appointment::Idle,
         })
     }
-}
 
-impl DownCounter {
     // The true ticks from the last accepted sample to a count. The count 0 takes a tick too, so a round has one more than the
     // reload.
     fn passed(&self, count: u32) -> u32

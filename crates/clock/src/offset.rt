@@ -38,9 +38,7 @@ impl<A: Alarm> Offset<A> {
     {
         (reading + self.shift.by) % wrap::turn(self.below.width())
     }
-}
 
-impl<A: Alarm> Offset<A> {
     // What the alarm below makes of a sample, this one makes of it.
     fn pass_on(&mut self, sample: A::Sample) -> Result<u64, Fault>
         ensures { λ r. ⌜ Taken (offset-meaning (A·Clock .meaning (now (self .entry) .below)) (now (self .entry) .shift .by)) (shifted (A·Clock .meaning (now (self .entry) .below) .width) (now (self .entry) .shift .by) (A·Alarm .appointment (now (self .entry) .below))) sample r (offset-meaning (A·Clock .meaning (now (self .exit) .below)) (now (self .exit) .shift .by)) (shifted (A·Clock .meaning (now (self .exit) .below) .width) (now (self .exit) .shift .by) (A·Alarm .appointment (now (self .exit) .below))) ⌝ }

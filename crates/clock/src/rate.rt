@@ -44,9 +44,7 @@ impl<A: Alarm> Rate<A> {
             kept: Kept::new(),
         }
     }
-}
 
-impl<A: Alarm> Rate<A> {
     // What ticks below bring, with what was left over, in parts of a tick.
     fn parts(&self, ticks: u64) -> u64
         requires { ⌜ ticks < 2 ^ 32 ⌝ }

@@ -21,7 +21,7 @@ const WIDEST: u32 = 48;
 pub struct Widening<A: Alarm> {
     below: A,
     bits: Bits,
-    // how often the reading below has wrapped
+    // how often the reading below has wrapped, modulo 2^bits
     carry: u64,
     kept: Kept,
     ghost small: { carry < 2 ^ bits .count },
@@ -40,9 +40,7 @@ impl<A: Alarm> Widening<A> {
             kept: Kept::new(),
         }
     }
-}
 
-impl<A: Alarm> Widening<A> {
     // Moves the layer's own parts on by a take below.
     fn follow(&mut self, width: u32, from: u64, wrapped: bool, gained: u64)
         requires { ⌜ width ≤ 48 ⌝ ∗ ⌜ from < 2 ^ width ⌝ }
