@@ -1,34 +1,48 @@
-// Replays a log of calls of an alarm: reads one call to a line, and prints one line with what was answered.
+// Replays a log of calls: reads one call to a line, and prints one line with what was answered.
 mod answer;
 mod call;
 mod command;
-mod session;
+mod lines;
+mod plan;
+mod raw;
+mod stack;
 
-use answer::AnswerDisplay;
-use session::Session;
+use answer::Answer;
+use command::Command;
+use lines::Lines;
+use stack::Stack;
 use std::io;
-use std::io::BufRead;
-use std::io::BufReader;
 
 fn main(rt: LibcRuntime) -> io::Result<()> {
-    let mut input = BufReader::new(rt.stdin());
-    let mut line = Vec::new(rt.alloc());
-    let mut session = Session::new();
-    for number in 1..u64::MAX {
-        line.clear();
-        if input.read_until(b'\n', &mut line)? == 0 {
-            break;
-        }
-        let answer = session.answer(number, without_end(line.as_slice()));
-        println!(rt, "{answer}")?;
+    let mut lines = Lines::new(rt);
+    let mut stack = first_stack(&mut lines)?;
+    for _ in 0..u64::MAX {
+        let Some(standing) = stack else {
+            return Ok(());
+        };
+        stack = standing.answer(&mut lines)?;
     }
     Ok(())
 }
 
-// A line without the byte 10 that ends it; the last line may lack that.
-fn without_end(line: &[u8]) -> &[u8] {
-    match line {
-        [text @ .., b'\n'] => text,
-        text => text,
+// Answers lines until a stack is accepted, or the input ends.
+fn first_stack(lines: &mut Lines) -> io::Result<Option<Stack>> {
+    for _ in 0..u64::MAX {
+        if !lines.advance()? {
+            break;
+        }
+        let answer = match Command::parse(lines.text()) {
+            None => Answer::NotUnderstood(lines.number()),
+            Some(Command::Ask(_)) => Answer::NoClock,
+            Some(Command::Build(plan)) => match Stack::build(plan) {
+                Ok(stack) => {
+                    lines.print(Answer::Ready)?;
+                    return Ok(Some(stack));
+                }
+                Err(fault) => Answer::Refused(fault),
+            },
+        };
+        lines.print(answer)?;
     }
+    Ok(None)
 }

@@ -1,0 +1,5 @@
+pub mod Soonest
+pub mod Nearest
+pub mod Planned
+pub mod Least
+pub mod Fitting

@@ -1,0 +1,13 @@
+pub mod Basics
+pub mod Firings
+pub mod Changes
+pub mod Frames
+pub mod Courses
+pub mod Standing
+pub mod Completeness
+pub mod Soundness
+pub mod Measuring
+pub mod Timing
+pub mod Sameness
+pub mod Alikeness
+pub mod Occurring
