@@ -1,15 +1,15 @@
 -- The down-counter keeps the laws of a clock, and moves as a clock moves. Assumes nothing.
 use mathlib.Core.Path.{_≡_, refl, sym, ap, _∙_}
-use mathlib.Core.Logic.{_⊎_, ⊎-elim}
+use mathlib.Core.Logic.{⊎-elim}
 use mathlib.Core.List.{List}
 use Prim.Native.Nat.{ℕ, _+_, _-_, _%_, _^_, _<_, _≤_, min}
 use native.Mathlib.Nat.{mod-add-mod, add-mod-right, mod-lt, zero-add}
 use native.Mathlib.Omega.{arith}
-use Rattle.std.proofs.shelf.Tests.{cases-lt}
+use Rattle.std.proofs.shelf.Tests.{cases-lt, lt-ltb, le-ltb, cond-true, cond-false}
 use Rattle.clock.specs.Wrap.{plus}
 use Rattle.clock.specs.Meaning.{Meaning, Lawful, advanced}
 use Rattle.clock.specs.Up.{total}
-use Rattle.clock.specs.Down.{back, down-meaning}
+use Rattle.clock.specs.Down.{back, fallen, down-meaning}
 use Rattle.clock.specs.Hold.{wait-for, Least}
 use Rattle.clock.specs.declared.down.Count.{Count}
 use Rattle.clock.specs.declared.appointment.Appointment.{Appointment}
@@ -41,6 +41,14 @@ module _ (n : ℕ) (some : 0 < n) where
   back-apart a d e hd he same =
       add-cancel n (back n a d) d e (mod-lt _ some) hd he
       (back-on a d ∙ sym (back-on a e) ∙ ap (λ x. (x + e) % n) (sym same))
+
+-- less than a round has passed
+pub fell-less : (reload last now d : ℕ) → last ≤ reload → now ≤ reload → d ≡ fallen reload last now → d < reload + 1
+fell-less reload last now d there low fell =
+    ⊎-elim
+    (λ (h : last < now). omega (arith, fell ∙ cond-true _ _ _ (lt-ltb last now h)))
+    (λ (h : now ≤ last). omega (arith, fell ∙ cond-false _ _ _ (le-ltb last now h)))
+    (cases-lt last now)
 
 module _ (reload last reading tag : ℕ) where
   pub down-lawful : 1 ≤ reload → reload < 2 ^ 24 → reading < 2 ^ 32 → Lawful (down-meaning reload last reading tag)
@@ -97,10 +105,10 @@ module _ (reload last reading tag : ℕ) where
           capped ∙ sym (wait-never m left (λ d small. omega arith))
 
   -- a count that the counter can show was accepted
-  pub down-accepted : (now d reading′ : ℕ) (a a′ : Appointment) → now ≤ reload → d < reload + 1
-      → (now + d ≡ last) ⊎ (now + d ≡ last + (reload + 1)) → reading′ ≡ plus 32 reading d → a′ ≡ after-take 32 reading d a
+  pub down-accepted : (now d reading′ : ℕ) (a a′ : Appointment) → last ≤ reload → now ≤ reload → d ≡ fallen reload last now
+      → reading′ ≡ plus 32 reading d → a′ ≡ after-take 32 reading d a
       → Accepted (down-meaning reload last reading tag) a (record { 0 = now }) d (down-meaning reload now reading′ tag) a′
-  down-accepted now d reading′ a a′ low near passed read moved = record {
+  down-accepted now d reading′ a a′ there low fell read moved = record {
     ticks = d;
     within = near;
     shows = ap (λ n. record { 0 = n }) (back-is (reload + 1) (omega arith) last d now (omega arith) on ∙ ap (back (reload + 1) last) (sym (zero-add d)));
@@ -109,8 +117,16 @@ module _ (reload last reading tag : ℕ) where
     appointment = moved;
   }
     where
+      near : d < reload + 1
+      near = fell-less reload last now d there low fell
+
       on : (now + d) % (reload + 1) ≡ last % (reload + 1)
       on =
-          ⊎-elim (λ (e : now + d ≡ last). ap (λ x. x % (reload + 1)) e)
-          (λ (e : now + d ≡ last + (reload + 1)). ap (λ x. x % (reload + 1)) e ∙ add-mod-right last (reload + 1))
-          passed
+          ⊎-elim
+          (λ (h : last < now).
+          let e : now + d ≡ last + (reload + 1) = omega (arith, fell ∙ cond-true _ _ _ (lt-ltb last now h)) in
+          ap (λ x. x % (reload + 1)) e ∙ add-mod-right last (reload + 1))
+          (λ (h : now ≤ last).
+          let e : now + d ≡ last = omega (arith, fell ∙ cond-false _ _ _ (le-ltb last now h)) in
+          ap (λ x. x % (reload + 1)) e)
+          (cases-lt last now)

@@ -37,29 +37,28 @@ both-ways n a b ha hb =
     (cases-eq a b)
 
 -- the three answers, by the way up
-module _ (w d : ℕ) where
-  pub at-less : d < 2 ^ (w - 1) → lead-at w d ≡ Ok (pos d)
+module _ (half d : ℕ) where
+  at-less : d < half → lead-at half d ≡ Ok (pos d)
   at-less h = cond-true _ _ _ (lt-ltb _ _ h)
 
-  pub at-more : 2 ^ (w - 1) < d → lead-at w d ≡ Ok (pos d -ℤ pos (2 ^ w))
-  at-more h = cond-false _ _ _ (le-ltb d (2 ^ (w - 1)) (omega arith)) ∙ cond-true _ _ _ (lt-ltb _ _ h)
+  at-more : half < d → lead-at half d ≡ Ok (pos d -ℤ pos (half + half))
+  at-more h = cond-false _ _ _ (le-ltb d half (omega arith)) ∙ cond-true _ _ _ (lt-ltb _ _ h)
 
-  pub at-half : d ≡ 2 ^ (w - 1) → lead-at w d ≡ Err half-turn
-  at-half e = cond-false _ _ _ (le-ltb d (2 ^ (w - 1)) (omega arith)) ∙ cond-false _ _ _ (le-ltb (2 ^ (w - 1)) d (omega arith))
+  at-half : d ≡ half → lead-at half d ≡ Err half-turn
+  at-half e = cond-false _ _ _ (le-ltb d half (omega arith)) ∙ cond-false _ _ _ (le-ltb half d (omega arith))
 
-at-turned : (w d e : ℕ) → 1 ≤ w → 0 < d → 0 < e → d + e ≡ 2 ^ w → turned (lead-at w d) ≡ lead-at w e
-at-turned w d e some up down whole =
-    let halves = two-halves w some in
+at-turned : (half d e : ℕ) → 0 < d → 0 < e → d + e ≡ half + half → turned (lead-at half d) ≡ lead-at half e
+at-turned half d e up down whole =
     ⊎-elim
-    (λ (h : d ≡ 2 ^ (w - 1)). ap turned (at-half w d h) ∙ sym (at-half w e (omega arith)))
+    (λ (h : d ≡ half). ap turned (at-half half d h) ∙ sym (at-half half e (omega arith)))
     (⊎-elim
-    (λ (h : d < 2 ^ (w - 1)).
-    let z : negℤ (pos d) ≡ pos e -ℤ pos (2 ^ w) = omega (arith, ints) in
-    ap turned (at-less w d h) ∙ ap (λ (x : ℤ). Ok x) z ∙ sym (at-more w e (omega arith)))
-    (λ (h : 2 ^ (w - 1) < d).
-    let z : negℤ (pos d -ℤ pos (2 ^ w)) ≡ pos e = omega (arith, ints) in
-    ap turned (at-more w d h) ∙ ap (λ (x : ℤ). Ok x) z ∙ sym (at-less w e (omega arith))))
-    (cases-order d (2 ^ (w - 1)))
+    (λ (h : d < half).
+    let z : negℤ (pos d) ≡ pos e -ℤ pos (half + half) = omega (arith, ints) in
+    ap turned (at-less half d h) ∙ ap (λ (x : ℤ). Ok x) z ∙ sym (at-more half e (omega arith)))
+    (λ (h : half < d).
+    let z : negℤ (pos d -ℤ pos (half + half)) ≡ pos e = omega (arith, ints) in
+    ap turned (at-more half d h) ∙ ap (λ (x : ℤ). Ok x) z ∙ sym (at-less half e (omega arith))))
+    (cases-order d half)
 
 and-turned : (x y : Bool) → (x && y) ≡ (y && x)
 and-turned true true = refl
@@ -68,13 +67,13 @@ and-turned false true = refl
 and-turned false false = refl
 
 module _ (w a b : ℕ) where
-  pub lead-inside : 2 ≤ w → w ≤ 48 → a < 2 ^ w → b < 2 ^ w → lead-of w a b ≡ lead-at w (minus w a b)
+  pub lead-inside : 2 ≤ w → w ≤ 48 → a < 2 ^ w → b < 2 ^ w → lead-of w a b ≡ lead-at (2 ^ (w - 1)) (minus w a b)
   lead-inside low high ha hb =
       cond-true _ _ _ (and-from _ _ (le-leb 2 w low) (le-leb w 48 high)) ∙ cond-true _ _ _ (and-from _ _ (lt-ltb a (2 ^ w) ha) (lt-ltb b (2 ^ w) hb))
 
 -- a law of the lead is shown for readings within the limits, and for the two refusals outside them
 module _ (w a b : ℕ) (Law : Result ℤ Fault → Type 0)
-    (inside : 2 ≤ w → w ≤ 48 → a < 2 ^ w → b < 2 ^ w → Law (lead-at w (minus w a b)))
+    (inside : 2 ≤ w → w ≤ 48 → a < 2 ^ w → b < 2 ^ w → Law (lead-at (2 ^ (w - 1)) (minus w a b)))
     (over : (2 ≤ w → w ≤ 48 → a < 2 ^ w → b < 2 ^ w → ⊥) → (leb 2 w && leb w 48) ≡ true → (ltb a (2 ^ w) && ltb b (2 ^ w)) ≡ false → Law (Err lead-limits))
     (narrow : (2 ≤ w → w ≤ 48 → a < 2 ^ w → b < 2 ^ w → ⊥) → (leb 2 w && leb w 48) ≡ false → Law (Err bad-lead-width)) where
   pub by-limits : Law (lead-of w a b)
@@ -107,22 +106,22 @@ lead-turned w a b = by-limits w a b (λ r. turned r ≡ lead-of w b a) inside (�
     beyond : (leb 2 w && leb w 48) ≡ true → (ltb a (2 ^ w) && ltb b (2 ^ w)) ≡ false → lead-of w b a ≡ Err lead-limits
     beyond e f = cond-true _ _ _ e ∙ cond-false _ _ _ (and-turned (ltb b (2 ^ w)) (ltb a (2 ^ w)) ∙ f)
 
-    inside : 2 ≤ w → w ≤ 48 → a < 2 ^ w → b < 2 ^ w → turned (lead-at w (minus w a b)) ≡ lead-of w b a
+    inside : 2 ≤ w → w ≤ 48 → a < 2 ^ w → b < 2 ^ w → turned (lead-at (2 ^ (w - 1)) (minus w a b)) ≡ lead-of w b a
     inside low high ha hb =
-        let end : lead-of w b a ≡ lead-at w (minus w b a) = lead-inside w b a low high hb ha in
+        let end : lead-of w b a ≡ lead-at (2 ^ (w - 1)) (minus w b a) = lead-inside w b a low high hb ha in
         ⊎-elim
         (λ (none : (minus w a b ≡ 0) × (minus w b a ≡ 0)).
         let p = pow-pos (w - 1) in
-        ap (λ n. turned (lead-at w n)) (none .0) ∙ ap turned (at-less w 0 p) ∙ sym (at-less w 0 p) ∙ ap (lead-at w) (sym (none .1)) ∙ sym end)
+        ap (λ n. turned (lead-at (2 ^ (w - 1)) n)) (none .0) ∙ ap turned (at-less (2 ^ (w - 1)) 0 p) ∙ sym (at-less (2 ^ (w - 1)) 0 p) ∙ ap (lead-at (2 ^ (w - 1))) (sym (none .1)) ∙ sym end)
         (λ (both : (0 < minus w a b) × (0 < minus w b a) × (minus w a b + minus w b a ≡ 2 ^ w)).
-        at-turned w (minus w a b) (minus w b a) (omega arith) (both .0) (both .1) (both .2) ∙ sym end)
+        at-turned (2 ^ (w - 1)) (minus w a b) (minus w b a) (both .0) (both .1) (both .2 ∙ sym (two-halves w (omega arith))) ∙ sym end)
         (both-ways (2 ^ w) a b ha hb)
 
 -- a lead is the number to add, and at half a turn there is none
 pub lead-serial : (w a b : ℕ) → Serial w a b (lead-of w a b)
 lead-serial w a b = by-limits w a b (Serial w a b) inside (λ out e f low high ha hb n h. out low high ha hb) (λ out e low high ha hb n h. out low high ha hb)
   where
-    inside : 2 ≤ w → w ≤ 48 → a < 2 ^ w → b < 2 ^ w → Serial w a b (lead-at w (minus w a b))
+    inside : 2 ≤ w → w ≤ 48 → a < 2 ^ w → b < 2 ^ w → Serial w a b (lead-at (2 ^ (w - 1)) (minus w a b))
     inside low high ha hb =
         let d = minus w a b in
         let halves = two-halves w (omega arith) in
@@ -134,19 +133,19 @@ lead-serial w a b = by-limits w a b (Serial w a b) inside (λ out e f low high h
         (λ (none : (minus w a b ≡ 0) × (minus w b a ≡ 0)). absurd (omega (arith, none .0, pow-pos (w - 1))))
         (λ (both : (0 < minus w a b) × (0 < minus w b a) × (minus w a b + minus w b a ≡ 2 ^ w)). both .2)
         (both-ways (2 ^ w) a b ha hb) in
-        subst (Serial w a b) (sym (at-half w d h))
+        subst (Serial w a b) (sym (at-half (2 ^ (w - 1)) d h))
         (λ low′ high′ ha′ hb′ n. ⊎-elim
         (λ (r : Reaches w b n a). omega (arith, r .0, add-cancel (2 ^ w) b d n hb (omega arith) (omega (arith, r .0)) (sym up ∙ r .1)))
         (λ (r : Reaches w a n b). omega (arith, r .0, add-cancel (2 ^ w) a (minus w b a) n ha (omega arith) (omega (arith, r .0)) (sym down ∙ r .1)))))
         (⊎-elim
-        (λ (h : d < 2 ^ (w - 1)). subst (Serial w a b) (sym (at-less w d h)) (h, up))
+        (λ (h : d < 2 ^ (w - 1)). subst (Serial w a b) (sym (at-less (2 ^ (w - 1)) d h)) (h, up))
         (λ (h : 2 ^ (w - 1) < d).
         let both : d + minus w b a ≡ 2 ^ w = ⊎-elim
         (λ (none : (minus w a b ≡ 0) × (minus w b a ≡ 0)). absurd (omega (arith, none .0, pow-pos (w - 1))))
         (λ (both : (0 < minus w a b) × (0 < minus w b a) × (minus w a b + minus w b a ≡ 2 ^ w)). both .2)
         (both-ways (2 ^ w) a b ha hb) in
         let less : d < 2 ^ w = mod-lt _ (pow-pos w) in
-        let z : pos d -ℤ pos (2 ^ w) ≡ negsuc (minus w b a - 1) = omega (arith, ints) in
+        let z : pos d -ℤ pos (2 ^ (w - 1) + 2 ^ (w - 1)) ≡ negsuc (minus w b a - 1) = omega (arith, ints) in
         let same : minus w b a - 1 + 1 ≡ minus w b a = omega arith in
-        subst (Serial w a b) (sym (at-more w d h ∙ ap (λ (x : ℤ). Ok x) z)) (omega arith, down ∙ ap (plus w a) (sym same))))
+        subst (Serial w a b) (sym (at-more (2 ^ (w - 1)) d h ∙ ap (λ (x : ℤ). Ok x) z)) (omega arith, down ∙ ap (plus w a) (sym same))))
         (cases-order d (2 ^ (w - 1)))

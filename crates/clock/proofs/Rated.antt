@@ -13,15 +13,13 @@ use Rattle.std.proofs.shelf.Bits.{le-div, mul-le}
 use Rattle.std.proofs.shelf.Tests.{le-leb, lt-leb, cases-lt, cases-eq}
 use Rattle.clock.specs.Wrap.{plus}
 use Rattle.clock.specs.Meaning.{Meaning, Counts, Lawful, advanced}
-use Rattle.clock.specs.Hold.{first-from, wait-for, hold-of}
+use Rattle.clock.specs.Hold.{first-from, wait-for}
 use Rattle.clock.specs.Rate.{rate-meaning, ceiling, needed}
 use Rattle.clock.specs.declared.appointment.Appointment.{Appointment}
-use Rattle.clock.specs.declared.appointment.Appointment.the-variants.{Standing}
 use Rattle.clock.specs.Appointment.{after-take}
 use Rattle.clock.specs.Kept.{within}
-use Rattle.clock.specs.Calls.{Accepted, HeldFor}
+use Rattle.clock.specs.Calls.{Accepted}
 use Rattle.clock.proofs.Keeping.{kept-moved}
-use Rattle.clock.proofs.Widened.{gains-less}
 
 -- a measure does not fall
 pub measure-mono : {g : ℕ → ℕ} → Counts g → (d x : ℕ) → g d ≤ g (d + x)
@@ -133,47 +131,34 @@ module _ (q p r : ℕ) (some : 1 ≤ q) (slow : q ≤ p) (small : r < p) where
             ∙ sym (mod-add-mod count (2 ^ m .width) ((r + q * m .measure d) / p))
 
     -- what the alarm below accepts, the layer accepts, and gains by its rate
-    pub rate-accepted : (m′ : Meaning X) (a a′ : Appointment) (r′ count′ : ℕ) (kept kept′ : Appointment) (sample : X) (ticks gained width from : ℕ)
-        → Accepted m a sample ticks m′ a′ → r′ ≡ (r + q * ticks) % p → gained ≡ (r + q * ticks) / p → count′ ≡ (count + gained) % 2 ^ 64
-        → width ≡ m .width → from ≡ count % 2 ^ m .width
+    pub rate-accepted : (m′ : Meaning X) (a a′ : Appointment) (q′ p′ r′ count′ : ℕ) (kept kept′ : Appointment) (sample : X) (ticks gained width from : ℕ)
+        → Accepted m a sample ticks m′ a′ → q′ ≡ q → p′ ≡ p → r′ ≡ (r + q * ticks) % p → gained ≡ (r + q * ticks) / p
+        → count′ ≡ (count + gained) % 2 ^ 64 → width ≡ m .width → from ≡ count % 2 ^ m .width
         → within width kept′ ≡ after-take width from gained (within width kept)
-        → Accepted (rate-meaning m q p r count) (within (m .width) kept) sample gained (rate-meaning m′ q p r′ count′) (within (m′ .width) kept′)
-    rate-accepted m′ a a′ r′ count′ kept kept′ sample ticks gained width from taken rest gain counted is here moved = record {
+        → Accepted (rate-meaning m q p r count) (within (m .width) kept) sample gained (rate-meaning m′ q′ p′ r′ count′) (within (m′ .width) kept′)
+    rate-accepted m′ a a′ q′ p′ r′ count′ kept kept′ sample ticks gained width from taken is-q is-p rest gain counted is here moved = record {
       ticks = taken .ticks;
       within = taken .within;
       shows = taken .shows;
-      gain = gain ∙ ap (λ n. (r + q * n) / p) (taken .gain);
+      gain = gains;
       clock =
-          ap (λ x. rate-meaning x q p r′ count′) (taken .clock)
-          ∙ ap (λ n. rate-meaning (advanced m (taken .ticks)) q p n count′) (rest ∙ ap (λ n. (r + q * n) % p) (taken .gain))
-          ∙ rate-advanced (taken .ticks) count′ (counted ∙ ap (λ n. (count + n) % 2 ^ 64) (gain ∙ ap (λ n. (r + q * n) / p) (taken .gain)));
+          (λ i. rate-meaning (taken .clock i) (is-q i) (is-p i) ((rest ∙ ap (λ n. (r + q * n) % p) (taken .gain)) i) count′)
+          ∙ rate-advanced (taken .ticks) count′ (counted ∙ ap (λ n. (count + n) % 2 ^ 64) gains);
       appointment = kept-moved _ _ width _ from gained kept kept′ is (ap (λ (x : Meaning X). x .width) (taken .clock)) here moved;
     }
-
-    -- the layer holds as long as the alarm below takes to gain what is needed
-    pub rate-held : (m′ : Meaning X) (kept : Appointment) (left wait width : ℕ) → Standing left ≡ within width kept → width ≡ m .width
-        → wait ≡ wait-for m (needed q p r left) → m′ ≡ m
-        → HeldFor (rate-meaning m q p r count) (within (m .width) kept) wait (rate-meaning m′ q p r count) (within (m′ .width) kept)
-    rate-held m′ kept left wait width standing is waits still = record {
-      answer =
-          waits ∙ rate-wait left
-          ∙ ap (hold-of (rate-meaning m q p r count)) (standing ∙ ap (λ n. within n kept) is);
-      clock = ap (λ x. rate-meaning x q p r count) still;
-      appointment = ap (λ (x : Meaning X). within (x .width) kept) still;
-    }
+      where
+        gains : gained ≡ (r + q * m .measure (taken .ticks)) / p
+        gains = gain ∙ ap (λ n. (r + q * n) / p) (taken .gain)
 
 -- the products that the code forms fit
-pub parts-fit : {X : Type 0} (m m′ : Meaning X) (a a′ : Appointment) (sample : X) (q p r ticks : ℕ) → Lawful m → q ≤ p → p ≤ 4096 → r < p
-    → Accepted m a sample ticks m′ a′ → r + q * ticks < 2 ^ 64
-parts-fit m m′ a a′ sample q p r ticks law slow high small taken =
-    let less = gains-less m law (taken .ticks) (taken .within) in
-    let product : q * ticks ≤ 4096 * 2 ^ 32 = mul-le q ticks 4096 (2 ^ 32) (omega arith) (omega (arith, taken .gain)) in
+pub parts-fit : (q p r ticks : ℕ) → q ≤ p → p ≤ 4096 → r < p → ticks < 2 ^ 32 → r + q * ticks < 2 ^ 64
+parts-fit q p r ticks slow high small few =
+    let product : q * ticks ≤ 4096 * 2 ^ 32 = mul-le q ticks 4096 (2 ^ 32) (omega arith) (omega arith) in
     omega arith
 
-pub left-fits : (w p left : ℕ) → w ≤ 48 → p ≤ 4096 → left < 2 ^ w → p * left < 2 ^ 64
-left-fits w p left narrow high fits =
-    let top : 2 ^ w ≤ 2 ^ 48 = pow-mono narrow in
-    let product : p * left ≤ 4096 * 2 ^ 48 = mul-le p left 4096 (2 ^ 48) high (omega arith) in
+pub left-fits : (p left : ℕ) → p ≤ 4096 → left ≤ 2 ^ 48 → p * left < 2 ^ 64
+left-fits p left high fits =
+    let product : p * left ≤ 4096 * 2 ^ 48 = mul-le p left 4096 (2 ^ 48) high fits in
     omega arith
 
 pub left-above : (p r left : ℕ) → r < p → 1 ≤ left → r ≤ p * left

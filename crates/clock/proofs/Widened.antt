@@ -1,22 +1,23 @@
 -- A widened clock keeps the laws of a clock, and moves as a clock moves. Assumes nothing.
 use mathlib.Core.Path.{_≡_, refl, sym, ap, _∙_}
-use mathlib.Core.Logic.{_⊎_, inl, inr, ⊎-elim}
+use mathlib.Core.Logic.{⊎-elim}
 use mathlib.Core.List.{_∷_}
 use Prim.Native.Nat.{ℕ, _+_, _-_, _*_, _/_, _%_, _^_, _<_, _≤_, min}
 use native.Mathlib.Nat.{mod-add-mod, mod-lt, mod-eq-of-lt, mul-add-mod-self-left, div-add-mod', add-mul, mul-assoc, mul-comm, add-comm, add-assoc}
 use native.Mathlib.Omega.{arith}
 use lib.Pow.{pow-pos, pow-mono, pow-add, mod-pow-add}
-use Rattle.std.proofs.shelf.Bits.{shr-high, mod-low, mul-add-lt}
+use lib.Dec.{leb}
+use Rattle.std.proofs.shelf.Bits.{shr-high, mod-low}
+use Rattle.std.proofs.shelf.Tests.{cases-lt, le-leb, lt-leb, cond-true, cond-false}
 use Rattle.clock.specs.Wrap.{plus}
 use Rattle.clock.specs.Meaning.{Meaning, Counts, Lawful, advanced}
-use Rattle.clock.specs.Widening.{widened-width, widening-meaning}
+use Rattle.clock.specs.Widening.{widened-width, widening-meaning, carry-after}
 use Rattle.clock.specs.declared.appointment.Appointment.{Appointment}
 use Rattle.clock.specs.Appointment.{after-take}
 use Rattle.clock.specs.Kept.{within}
 use Rattle.clock.specs.Calls.{Accepted}
 use Rattle.clock.proofs.Wrapping.{below, once-round}
-use Rattle.clock.proofs.Waiting.{measure-le}
-use Rattle.clock.proofs.Keeping.{kept-moved}
+use Rattle.clock.proofs.Keeping.{gains-less, kept-moved}
 
 -- a carry counts modulo 2^bits: what it drops lies above the widened reading
 pub carry-drops : (w bits top x y : ℕ) → top ≤ w + bits → (x % 2 ^ bits * 2 ^ w + y) % 2 ^ top ≡ (x * 2 ^ w + y) % 2 ^ top
@@ -37,17 +38,21 @@ carry-drops w bits top x y low = sym (ap (λ n. n % 2 ^ top) parts ∙ mul-add-m
         ∙ ap (λ n. n + y) (add-mul (x / 2 ^ bits * 2 ^ bits) (x % 2 ^ bits) (2 ^ w) ∙ ap (λ n. n + x % 2 ^ bits * 2 ^ w) high)
         ∙ add-assoc _ _ _
 
--- the clock below does not gain a whole turn in one take
-pub gains-less : {X : Type 0} (m : Meaning X) → Lawful m → (d : ℕ) → d < m .reach → (m .measure d < 2 ^ m .width) × (m .measure d < 2 ^ 32)
-gains-less m law d near =
-    let le = measure-le (law .counts) d in
-    (omega (arith, le, law .reach-fits), omega (arith, le, law .reach-high))
+-- a carry above a reading of w bits, modulo 2^top
+module _ (top w carry reading : ℕ) (wider : w ≤ top) (fits : reading < 2 ^ w) where
+  pub joined-is : carry % 2 ^ (top - w) * 2 ^ w + reading ≡ (carry * 2 ^ w + reading) % 2 ^ top
+  joined-is =
+      let n = carry * 2 ^ w + reading in
+      let j = top - w in
+      let two : top ≡ j + w = omega arith in
+      sym (ap (λ k. n % 2 ^ k) two ∙ mod-pow-add n j w ∙ ap (λ k. k % 2 ^ j * 2 ^ w + n % 2 ^ w) (shr-high carry w reading fits)
+      ∙ ap (λ k. carry % 2 ^ j * 2 ^ w + k) (mod-low carry w reading fits))
 
--- the carry after a take: a wrap below adds one
-abbrev pub Carried : {X : Type 0} → Meaning X → ℕ → ℕ → ℕ → ℕ → Type 0
-Carried m bits carry gained carry′ =
-    ((m .reading + gained < 2 ^ m .width) × (carry′ ≡ carry))
-    ⊎ ((2 ^ m .width ≤ m .reading + gained) × (carry′ ≡ (carry + 1) % 2 ^ bits))
+  pub joined-fits : top ≤ 48 → carry % 2 ^ (top - w) * 2 ^ w + reading < 2 ^ 48
+  joined-fits narrow =
+      let turns : 2 ^ top ≤ 2 ^ 48 = pow-mono narrow in
+      let low = mod-lt (carry * 2 ^ w + reading) (pow-pos top) in
+      omega (arith, joined-is)
 
 module _ {X : Type 0} (m : Meaning X) (law : Lawful m) (bits carry : ℕ) where
   wider : m .width ≤ widened-width (m .width) bits
@@ -67,48 +72,32 @@ module _ {X : Type 0} (m : Meaning X) (law : Lawful m) (bits carry : ℕ) where
         apart = law .apart;
       }
 
-  -- the reading in two parts
-  pub widened-reading : carry % 2 ^ (widened-width (m .width) bits - m .width) * 2 ^ m .width + m .reading
-      ≡ (carry * 2 ^ m .width + m .reading) % 2 ^ widened-width (m .width) bits
-  widened-reading =
-      let n = carry * 2 ^ m .width + m .reading in
-      let j = widened-width (m .width) bits - m .width in
-      let two : widened-width (m .width) bits ≡ j + m .width = omega (arith, wider) in
-      sym (ap (λ k. n % 2 ^ k) two ∙ mod-pow-add n j (m .width)
-      ∙ ap (λ k. k % 2 ^ j * 2 ^ m .width + n % 2 ^ m .width) (shr-high carry (m .width) (m .reading) (law .reading-fits))
-      ∙ ap (λ k. carry % 2 ^ j * 2 ^ m .width + k) (mod-low carry (m .width) (m .reading) (law .reading-fits)))
-
-  pub widened-small : carry % 2 ^ (widened-width (m .width) bits - m .width) * 2 ^ m .width + m .reading < 2 ^ 48
-  widened-small =
-      let narrow : widened-width (m .width) bits ≤ 48 = omega arith in
-      let top : 2 ^ widened-width (m .width) bits ≤ 2 ^ 48 = pow-mono narrow in
-      let low = mod-lt (carry * 2 ^ m .width + m .reading) (pow-pos (widened-width (m .width) bits)) in
-      omega (arith, widened-reading)
-
-  pub widened-on : (gained carry′ : ℕ) → gained < 2 ^ m .width → Carried m bits carry gained carry′
+  pub widened-on : (gained carry′ : ℕ) → gained < 2 ^ m .width → carry′ ≡ carry-after bits carry (leb (2 ^ m .width) (m .reading + gained))
       → (carry′ * 2 ^ m .width + plus (m .width) (m .reading) gained) % 2 ^ widened-width (m .width) bits
       ≡ plus (widened-width (m .width) bits) ((carry * 2 ^ m .width + m .reading) % 2 ^ widened-width (m .width) bits) gained
-  widened-on gained carry′ less carried = ⊎-elim stays wraps carried ∙ sym (mod-add-mod (carry * 2 ^ m .width + m .reading) _ gained)
+  widened-on gained carry′ less carried = ⊎-elim stays wraps (cases-lt (m .reading + gained) (2 ^ m .width)) ∙ sym (mod-add-mod (carry * 2 ^ m .width + m .reading) _ gained)
     where
-      stays : (m .reading + gained < 2 ^ m .width) × (carry′ ≡ carry)
+      stays : m .reading + gained < 2 ^ m .width
           → (carry′ * 2 ^ m .width + plus (m .width) (m .reading) gained) % 2 ^ widened-width (m .width) bits
           ≡ (carry * 2 ^ m .width + m .reading + gained) % 2 ^ widened-width (m .width) bits
-      stays (low, same) =
+      stays low =
+          let same : carry′ ≡ carry = carried ∙ cond-false _ _ _ (lt-leb (2 ^ m .width) (m .reading + gained) low) in
           let e = below (2 ^ m .width) (m .reading + gained) low in
           ap (λ n. (n * 2 ^ m .width + plus (m .width) (m .reading) gained) % 2 ^ widened-width (m .width) bits) same
           ∙ ap (λ n. n % 2 ^ widened-width (m .width) bits) (omega arith)
 
-      wraps : (2 ^ m .width ≤ m .reading + gained) × (carry′ ≡ (carry + 1) % 2 ^ bits)
+      wraps : 2 ^ m .width ≤ m .reading + gained
           → (carry′ * 2 ^ m .width + plus (m .width) (m .reading) gained) % 2 ^ widened-width (m .width) bits
           ≡ (carry * 2 ^ m .width + m .reading + gained) % 2 ^ widened-width (m .width) bits
-      wraps (high, next) =
+      wraps high =
+          let next : carry′ ≡ (carry + 1) % 2 ^ bits = carried ∙ cond-true _ _ _ (le-leb (2 ^ m .width) (m .reading + gained) high) in
           let e = once-round (2 ^ m .width) (m .reading + gained) high (omega (arith, law .reading-fits)) in
           let more = add-mul carry 1 (2 ^ m .width) in
           ap (λ n. (n * 2 ^ m .width + plus (m .width) (m .reading) gained) % 2 ^ widened-width (m .width) bits) next
           ∙ carry-drops (m .width) bits (widened-width (m .width) bits) (carry + 1) (plus (m .width) (m .reading) gained) (omega arith)
           ∙ ap (λ n. n % 2 ^ widened-width (m .width) bits) (omega arith)
 
-  pub widened-advanced : (d carry′ : ℕ) → d < m .reach → Carried m bits carry (m .measure d) carry′
+  pub widened-advanced : (d carry′ : ℕ) → d < m .reach → carry′ ≡ carry-after bits carry (leb (2 ^ m .width) (m .reading + m .measure d))
       → widening-meaning (advanced m d) bits carry′ ≡ advanced (widening-meaning m bits carry) d
   widened-advanced d carry′ near carried =
       ap (λ n. record {
@@ -121,20 +110,21 @@ module _ {X : Type 0} (m : Meaning X) (law : Lawful m) (bits carry : ℕ) where
       }) (widened-on (m .measure d) carry′ (gains-less m law d near .0) carried)
 
 -- what the alarm below accepts, the layer accepts
-pub widening-accepted : {X : Type 0} (m m′ : Meaning X) (a a′ : Appointment) (bits carry carry′ : ℕ) (kept kept′ : Appointment) (sample : X) (gained width from : ℕ)
-    → Lawful m → Accepted m a sample gained m′ a′ → Carried m bits carry gained carry′
+pub widening-accepted : {X : Type 0} (m m′ : Meaning X) (a a′ : Appointment) (bits bits′ carry carry′ : ℕ) (kept kept′ : Appointment) (sample : X) (gained width from : ℕ)
+    → Lawful m → Accepted m a sample gained m′ a′ → bits′ ≡ bits → carry′ ≡ carry-after bits carry (leb (2 ^ m .width) (m .reading + gained))
     → width ≡ widened-width (m .width) bits → from ≡ widening-meaning m bits carry .reading
     → within width kept′ ≡ after-take width from gained (within width kept)
     → Accepted (widening-meaning m bits carry) (within (widened-width (m .width) bits) kept) sample gained
-    (widening-meaning m′ bits carry′) (within (widened-width (m′ .width) bits) kept′)
-widening-accepted {X} m m′ a a′ bits carry carry′ kept kept′ sample gained width from law taken carried is here moved = record {
+    (widening-meaning m′ bits′ carry′) (within (widened-width (m′ .width) bits′) kept′)
+widening-accepted {X} m m′ a a′ bits bits′ carry carry′ kept kept′ sample gained width from law taken same carried is here moved = record {
   ticks = taken .ticks;
   within = taken .within;
   shows = taken .shows;
   gain = taken .gain;
   clock =
-      ap (λ x. widening-meaning x bits carry′) (taken .clock)
-      ∙ widened-advanced m law bits carry (taken .ticks) carry′ (taken .within) (rw (taken .gain) at carried);
+      (λ i. widening-meaning (taken .clock i) (same i) carry′)
+      ∙ widened-advanced m law bits carry (taken .ticks) carry′ (taken .within)
+      (carried ∙ ap (λ n. carry-after bits carry (leb (2 ^ m .width) (m .reading + n))) (taken .gain));
   appointment =
-      kept-moved _ _ width _ from gained kept kept′ is (ap (λ (x : Meaning X). widened-width (x .width) bits) (taken .clock)) here moved;
+      kept-moved _ _ width _ from gained kept kept′ is (λ i. widened-width (taken .clock i .width) (same i)) here moved;
 }

@@ -17,6 +17,10 @@ use Rattle.clock.specs.declared.down.Count.{Count}
 abbrev pub back : ℕ → ℕ → ℕ → ℕ
 back n a s = (a + (n - s % n)) % n
 
+-- the ticks in which the count falls from one to another: past 0 it starts again at the reload
+abbrev pub fallen : ℕ → ℕ → ℕ → ℕ
+fallen reload from to = cond (ltb from to) (from + (reload + 1) - to) (from - to)
+
 -- last is the count of the last accepted sample; a round of the counter is one tick longer than its reload
 abbrev pub down-meaning : ℕ → ℕ → ℕ → ℕ → Meaning Count
 down-meaning reload last reading tag = record {

@@ -14,15 +14,13 @@ use Rattle.clock.specs.Wrap.{plus, minus}
 
 -- d is the way up from the one to the other: past half a turn the way down is the shorter one
 abbrev pub lead-at : ℕ → ℕ → Result ℤ Fault
-lead-at w d =
-    cond (ltb d (2 ^ (w - 1))) (Ok (pos d))
-    (cond (ltb (2 ^ (w - 1)) d) (Ok (pos d -ℤ pos (2 ^ w))) (Err half-turn))
+lead-at half d = cond (ltb d half) (Ok (pos d)) (cond (ltb half d) (Ok (pos d -ℤ pos (half + half))) (Err half-turn))
 
 -- the lead of a over b: the width is judged first, then the readings
 abbrev pub lead-of : ℕ → ℕ → ℕ → Result ℤ Fault
 lead-of w a b =
     cond (leb 2 w && leb w 48)
-    (cond (ltb a (2 ^ w) && ltb b (2 ^ w)) (lead-at w (minus w a b)) (Err lead-limits))
+    (cond (ltb a (2 ^ w) && ltb b (2 ^ w)) (lead-at (2 ^ (w - 1)) (minus w a b)) (Err lead-limits))
     (Err bad-lead-width)
 
 -- the lead with its sign changed; a refusal stays what it is

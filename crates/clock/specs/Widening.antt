@@ -1,5 +1,6 @@
 -- Widening: the clock below with further bits above its reading, which count how often the reading has wrapped.
 -- Assumes nothing.
+use mathlib.Core.Bool.{Bool, cond}
 use Prim.Native.Nat.{ℕ, _+_, _*_, _%_, _^_, min}
 use Rattle.clock.specs.Meaning.{Meaning}
 
@@ -16,3 +17,7 @@ widening-meaning m bits carry = record {
   measure = m .measure;
   tag = m .tag;
 }
+
+-- the carry after a take in which the reading below wrapped or not
+abbrev pub carry-after : ℕ → ℕ → Bool → ℕ
+carry-after bits carry wrapped = cond wrapped ((carry + 1) % 2 ^ bits) carry

@@ -2,7 +2,9 @@
 ghost use mathlib.Core.Path.{_≡_};
 ghost use Prim.Native.Nat.{_^_, _<_, _≤_};
 ghost use Rattle.clock.specs.Appointment.{Sound};
-ghost use Rattle.clock.specs.Down.{down-meaning, down-made};
+ghost use Rattle.clock.specs.Calls.{Accepted};
+ghost use Rattle.clock.specs.Down.{down-meaning, down-made, fallen};
+ghost use Rattle.clock.specs.Hold.{wait-for};
 ghost use Rattle.clock.specs.Making.{seen};
 use crate::alarm::Alarm;
 use crate::alarm::Clock;
@@ -15,7 +17,7 @@ use fault::Fault;
 #[derive(Clone, Copy, PartialEq, Eq, Debug)]
 pub struct Count(pub u32);
 
-// The reading grows as the count falls, so that a reading means the same as that of any other clock.
+// The counts repeat after a round, so the reading is kept apart from them. It grows as the count falls.
 const WIDTH: u32 = 32;
 
 #[derive(Drop)]
@@ -52,6 +54,36 @@ impl DownCounter {
             appointment: Appointment::Idle,
         })
     }
+
+    // The true ticks from the last accepted sample to a count. The count 0 takes a tick too, so a round has one more than the
+    // reload.
+    fn passed(&self, count: u32) -> u32
+        requires { ⌜ count ≤ now self .reload ⌝ }
+        ensures { λ r. ⌜ r ≡ fallen (now (self .entry) .reload) (now (self .entry) .last) count ⌝ }
+    {
+        if self.last < count {
+            self.last + (self.reload + 1) - count
+        } else {
+            self.last - count
+        }
+    }
+
+    // Moves on to a count that the counter can show, this many ticks after the last.
+    fn accept(&mut self, sample: Count, gained: u64)
+        requires { ⌜ sample .0 ≤ now self .reload ⌝ ∗ ⌜ gained ≡ fallen (now self .reload) (now self .last) (sample .0) ⌝ }
+        ensures { λ _. ⌜ Accepted (down-meaning (now (self .entry) .reload) (now (self .entry) .last) (now (self .entry) .reading) (now (self .entry) .tag)) (now (self .entry) .appointment) sample gained (down-meaning (now (self .exit) .reload) (now (self .exit) .last) (now (self .exit) .reading) (now (self .exit) .tag)) (now (self .exit) .appointment) ⌝ }
+    {
+        self.appointment.take(WIDTH, self.reading, gained);
+        self.reading = wrap::sum(WIDTH, self.reading, gained);
+        self.last = sample.0;
+    }
+
+    // A tick of this clock is a true tick.
+    fn wait(&self, left: u64) -> u64
+        ensures { λ r. ⌜ r ≡ wait-for (down-meaning (now (self .entry) .reload) (now (self .entry) .last) (now (self .entry) .reading) (now (self .entry) .tag)) left ⌝ }
+    {
+        left.min(u64::from(self.reload))
+    }
 }
 
 pub impl Clock for DownCounter as DownClock {
@@ -76,20 +108,11 @@ pub impl Alarm for DownCounter as DownAlarm {
     ghost appointment = { λ c. c .appointment };
 
     fn take(&mut self, sample: Count) -> Result<u64, Fault> {
-        let Count(count) = sample;
-        if count > self.reload {
+        if sample.0 > self.reload {
             return Err(Fault::in_device(Cause::StraySample, self.tag));
         }
-        // a round has one tick more than the reload: the count 0 takes one too
-        let passed = if count <= self.last {
-            self.last - count
-        } else {
-            self.last + self.reload + 1 - count
-        };
-        let gained = u64::from(passed);
-        self.appointment.take(WIDTH, self.reading, gained);
-        self.reading = wrap::sum(WIDTH, self.reading, gained);
-        self.last = count;
+        let gained = u64::from(self.passed(sample.0));
+        self.accept(sample, gained);
         Ok(gained)
     }
 
@@ -106,11 +129,9 @@ pub impl Alarm for DownCounter as DownAlarm {
     }
 
     fn hold(&mut self) -> u64 {
-        let most = u64::from(self.reload);
         match self.appointment {
-            Appointment::Idle => most,
-            // a tick of the clock is a true tick
-            Appointment::Standing(left) => left.min(most),
+            Appointment::Idle => u64::from(self.reload),
+            Appointment::Standing(left) => self.wait(left),
             Appointment::Due(_) => 0,
         }
     }

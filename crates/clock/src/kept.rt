@@ -4,7 +4,7 @@
 // would not fit it counts as none. A layer never keeps such a one: what is kept comes from calls at the same width.
 ghost use mathlib.Core.Path.{_≡_};
 ghost use Prim.Native.Nat.{_^_, _<_, _≤_};
-ghost use Rattle.clock.specs.Appointment.{Sound, left-in, after-take, setting, told, left-by, stops, claims, after-claim};
+ghost use Rattle.clock.specs.Appointment.{Sound, held, left-in, after-take, setting, told, left-by, stops, claims, after-claim};
 ghost use Rattle.clock.specs.Kept.{within};
 ghost use Rattle.clock.specs.declared.appointment.Appointment.the-variants.{Idle};
 use crate::appointment::Appointment;
@@ -31,6 +31,7 @@ impl Kept {
         requires { ⌜ width ≤ 48 ⌝ }
         ensures is { λ r. ⌜ r ≡ within width (now (self .entry) .appointment) ⌝ }
         ensures sound { λ r. ⌜ Sound width r ⌝ }
+        ensures bound { λ r. ⌜ held r < 2 ^ 48 ⌝ }
     {
         let turn = wrap::turn(width);
         match self.appointment {

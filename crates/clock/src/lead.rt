@@ -3,7 +3,8 @@
 // The lead tells which of two readings is the later one only while they lie less than half a turn apart. So no deadline is
 // judged by it: an appointment counts the ticks that are left.
 ghost use mathlib.Core.Path.{_≡_};
-ghost use Rattle.clock.specs.Lead.{lead-of, turned, Serial};
+ghost use Prim.Native.Nat.{_+_, _^_, _<_, _≤_};
+ghost use Rattle.clock.specs.Lead.{lead-at, lead-of, turned, Serial};
 use crate::wrap;
 use fault::Cause;
 use fault::Fault;
@@ -22,12 +23,18 @@ pub fn lead(width: u32, a: u64, b: u64) -> Result<i64, Fault>
     if a >= turn || b >= turn {
         return Err(Fault::in_lead(Cause::OutOfLimits));
     }
-    let half = wrap::turn(width - 1);
-    let distance = wrap::difference(width, a, b);
+    signed(wrap::turn(width - 1), wrap::difference(width, a, b))
+}
+
+// The lead at a distance up of less than a turn: past half a turn the way down is the shorter one.
+fn signed(half: u64, distance: u64) -> Result<i64, Fault>
+    requires { ⌜ half ≤ 2 ^ 47 ⌝ ∗ ⌜ distance < half + half ⌝ }
+    ensures { λ r. ⌜ r ≡ lead-at half distance ⌝ }
+{
     if distance < half {
         Ok(distance as i64)
     } else if distance > half {
-        Ok(distance as i64 - turn as i64)
+        Ok(distance as i64 - (half + half) as i64)
     } else {
         Err(Fault::in_lead(Cause::HalfTurn))
     }

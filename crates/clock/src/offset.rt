@@ -4,6 +4,7 @@
 // forward on the way up.
 ghost use mathlib.Core.Path.{_≡_};
 ghost use Prim.Native.Nat.{_^_, _<_, _≤_};
+ghost use Rattle.clock.specs.Calls.{Taken, SetTo};
 ghost use Rattle.clock.specs.Wrap.{plus};
 ghost use Rattle.clock.specs.Offset.{offset-meaning, shifted};
 ghost use Rattle.clock.specs.declared.appointment.Appointment.the-variants.{Idle};
@@ -37,6 +38,23 @@ impl<A: Alarm> Offset<A> {
     {
         (reading + self.shift.by) % wrap::turn(self.below.width())
     }
+
+    // What the alarm below makes of a sample, this one makes of it.
+    fn pass_on(&mut self, sample: A::Sample) -> Result<u64, Fault>
+        ensures { λ r. ⌜ Taken (offset-meaning (A·Clock .meaning (now (self .entry) .below)) (now (self .entry) .shift .by)) (shifted (A·Clock .meaning (now (self .entry) .below) .width) (now (self .entry) .shift .by) (A·Alarm .appointment (now (self .entry) .below))) sample r (offset-meaning (A·Clock .meaning (now (self .exit) .below)) (now (self .exit) .shift .by)) (shifted (A·Clock .meaning (now (self .exit) .below) .width) (now (self .exit) .shift .by) (A·Alarm .appointment (now (self .exit) .below))) ⌝ }
+    {
+        self.below.take(sample)
+    }
+
+    // Hands an appointment down, with its reference turned back.
+    fn place(&mut self, reference: u64, delay: u64) -> Result<(), Fault>
+        requires { ⌜ reference < 2 ^ A·Clock .meaning (now self .below) .width ⌝ }
+        ensures { λ r. ⌜ SetTo (offset-meaning (A·Clock .meaning (now (self .entry) .below)) (now (self .entry) .shift .by)) (shifted (A·Clock .meaning (now (self .entry) .below) .width) (now (self .entry) .shift .by) (A·Alarm .appointment (now (self .entry) .below))) reference delay r (offset-meaning (A·Clock .meaning (now (self .exit) .below)) (now (self .exit) .shift .by)) (shifted (A·Clock .meaning (now (self .exit) .below) .width) (now (self .exit) .shift .by) (A·Alarm .appointment (now (self .exit) .below))) ⌝ }
+    {
+        let width = self.below.width();
+        let back = wrap::difference(width, reference, self.shift.by % wrap::turn(width));
+        self.below.set(back, delay)
+    }
 }
 
 pub impl<A: Alarm> Clock for Offset<A> as OffsetClock {
@@ -62,17 +80,15 @@ pub impl<A: Alarm> Alarm for Offset<A> as OffsetAlarm {
     ghost appointment = { λ x. shifted (A·Clock .meaning (x .below) .width) (x .shift .by) (A·Alarm .appointment (x .below)) };
 
     fn take(&mut self, sample: A::Sample) -> Result<u64, Fault> {
-        self.below.take(sample)
+        self.pass_on(sample)
     }
 
     fn set(&mut self, reference: u64, delay: u64) -> Result<(), Fault> {
-        let width = self.below.width();
-        let turn = wrap::turn(width);
-        if reference >= turn {
+        // judged here, since turned back it would look like a good one
+        if reference >= wrap::turn(self.below.width()) {
             return Err(Fault::in_alarm(Cause::OutOfLimits));
         }
-        let back = wrap::difference(width, reference, self.shift.by % turn);
-        self.below.set(back, delay)
+        self.place(reference, delay)
     }
 
     fn stop(&mut self) -> bool {

@@ -1,8 +1,9 @@
 // A layer that widens the reading of the alarm below: further bits count how often it has wrapped.
 ghost use mathlib.Core.Path.{_≡_};
-ghost use Prim.Native.Nat.{_^_, _<_, _≤_};
+ghost use Prim.Native.Nat.{_+_, _*_, _%_, _^_, _<_, _≤_};
+ghost use Rattle.clock.specs.Appointment.{after-take};
 ghost use Rattle.clock.specs.Kept.{within};
-ghost use Rattle.clock.specs.Widening.{widened-width, widening-meaning};
+ghost use Rattle.clock.specs.Widening.{widened-width, widening-meaning, carry-after};
 ghost use Rattle.clock.specs.declared.appointment.Appointment.the-variants.{Idle};
 use crate::alarm::Alarm;
 use crate::alarm::Clock;
@@ -20,7 +21,7 @@ const WIDEST: u32 = 48;
 pub struct Widening<A: Alarm> {
     below: A,
     bits: Bits,
-    // how often the reading below has wrapped
+    // how often the reading below has wrapped, modulo 2^bits
     carry: u64,
     kept: Kept,
     ghost small: { carry < 2 ^ bits .count },
@@ -39,6 +40,29 @@ impl<A: Alarm> Widening<A> {
             kept: Kept::new(),
         }
     }
+
+    // Moves the layer's own parts on by a take below.
+    fn follow(&mut self, width: u32, from: u64, wrapped: bool, gained: u64)
+        requires { ⌜ width ≤ 48 ⌝ ∗ ⌜ from < 2 ^ width ⌝ }
+        ensures below { λ _. ⌜ now (self .exit) .below ≡ now (self .entry) .below ⌝ }
+        ensures bits { λ _. ⌜ now (self .exit) .bits .count ≡ now (self .entry) .bits .count ⌝ }
+        ensures carry { λ _. ⌜ now (self .exit) .carry ≡ carry-after (now (self .entry) .bits .count) (now (self .entry) .carry) wrapped ⌝ }
+        ensures kept { λ _. ⌜ within width (now (self .exit) .kept .appointment) ≡ after-take width from gained (within width (now (self .entry) .kept .appointment)) ⌝ }
+    {
+        if wrapped {
+            self.carry = (self.carry + 1) % wrap::turn(self.bits.count);
+        }
+        self.kept.take(width, from, gained);
+    }
+}
+
+// The carry above a reading of `low` bits: as much of it as the width has place for.
+fn joined(width: u32, low: u32, carry: u64, reading: u64) -> u64
+    requires { ⌜ low ≤ width ⌝ ∗ ⌜ width ≤ 48 ⌝ ∗ ⌜ reading < 2 ^ low ⌝ }
+    ensures { λ r. ⌜ r ≡ (carry * 2 ^ low + reading) % 2 ^ width ⌝ }
+{
+    let high = carry % wrap::turn(width - low);
+    high * wrap::turn(low) + reading
 }
 
 pub impl<A: Alarm> Clock for Widening<A> as WideningClock {
@@ -56,10 +80,7 @@ pub impl<A: Alarm> Clock for Widening<A> as WideningClock {
 
     fn reading(&self) -> u64 {
         let low = self.below.width();
-        let width = WIDEST.min(low + self.bits.count);
-        // as much of the carry as the width has place for
-        let high = self.carry % wrap::turn(width - low);
-        high * wrap::turn(low) + self.below.reading()
+        joined(self.width(), low, self.carry, self.below.reading())
     }
 }
 
@@ -73,13 +94,8 @@ pub impl<A: Alarm> Alarm for Widening<A> as WideningAlarm {
         let low = self.below.reading();
         let gained = self.below.take(sample)?;
         // fewer ticks than a turn, so the reading below wraps once at most
-        let carry = if low + gained < turn {
-            self.carry
-        } else {
-            (self.carry + 1) % wrap::turn(self.bits.count)
-        };
-        self.carry = carry;
-        self.kept.take(width, from, gained);
+        let wrapped = low + gained >= turn;
+        self.follow(width, from, wrapped, gained);
         Ok(gained)
     }
 

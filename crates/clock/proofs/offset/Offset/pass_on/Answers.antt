@@ -1,5 +1,5 @@
 use Rattle.clock.proofs.Shifted.{offset-taken}
-use Rattle.clock.proofs.offset.OffsetAlarm.take.Needs as need
+use Rattle.clock.proofs.offset.Offset.pass_on.Needs as need
 
 pub returns : need.returns
 returns g c =
