@@ -7,3 +7,4 @@ pub mod Agenda
 pub mod Within
 pub mod Making
 pub mod Look
+pub mod Example

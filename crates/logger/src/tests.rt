@@ -1,5 +1,4 @@
 // The worked run, and tickets in use.
-use crate::example::put_off;
 use crate::jobs::Action;
 use crate::jobs::ActionDebug;
 use crate::jobs::ActionPartialEq;
@@ -36,6 +35,10 @@ fn marked(slot: usize, due: u64) -> Option<Firing> {
     })
 }
 
+fn settled(due: u64, fired: bool) -> Outcome {
+    Outcome { due, fired }
+}
+
 #[test]
 fn a_tie_and_a_late_serve() -> Result<(), Fail> {
     let mut logger = made()?;
@@ -60,20 +63,16 @@ fn a_tie_and_a_late_serve() -> Result<(), Fail> {
 }
 
 #[test]
-fn an_errand_put_off() -> Result<(), Fail> {
+fn one_errand_after_another() -> Result<(), Fail> {
     let mut logger = made()?;
     let ticket = logger.errand(3, 1000, 10, Action::Mark)?;
-    let ticket = put_off(&mut logger, ticket, 20, Action::Mark)?;
+    let early = logger.settle(ticket)?;
+    let ticket = logger.errand(3, 1000, 20, Action::Mark)?;
     let served = logger.serve(Word(20));
     let firing = logger.next();
-    let outcome = logger.settle(ticket)?;
+    let late = logger.settle(ticket)?;
     check_eq(served?, 1020)?;
     check(firing.is_some())?;
-    check_eq(
-        outcome,
-        Outcome {
-            due: 1020,
-            fired: true,
-        },
-    )
+    check_eq(early, settled(1010, false))?;
+    check_eq(late, settled(1020, true))
 }
