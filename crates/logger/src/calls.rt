@@ -5,7 +5,7 @@ ghost use Prim.Native.Nat.{ℕ, _^_, _<_};
 ghost use Rattle.std.specs.Vec.{made};
 ghost use Rattle.clock.specs.Calls.{Taken};
 ghost use Rattle.logger.specs.State.{view, slot-of, with-slot};
-ghost use Rattle.logger.specs.Calls.{after-set-up, Served, SetUp, Erranded, CalledOff, Settled, Nexted, NextLaw, Held};
+ghost use Rattle.logger.specs.Calls.{after-set-up, Served, SetUp, Erranded, CalledOff, Settled, Nexted, NextLaw, Held, HoldLaw};
 ghost use Rattle.logger.specs.Dues.{planned, ready};
 ghost use Rattle.logger.specs.Making.{fresh};
 ghost use Rattle.logger.specs.Slots.{set-up-slot};
@@ -151,6 +151,13 @@ impl<A: Alarm> Logger<A> {
 
     // How many true ticks may pass before the next sample, so that the next firing comes on its moment.
     pub fn hold(&mut self) -> u64
+        ensures answer { λ r. ⌜ Held (view (A·Clock .meaning) (now (self .entry))) r (view (A·Clock .meaning) (now (self .exit))) ⌝ }
+        ensures law { λ r. ⌜ HoldLaw (view (A·Clock .meaning) (now (self .entry))) r ⌝ }
+    {
+        self.wait()
+    }
+
+    fn wait(&mut self) -> u64
         ensures { λ r. ⌜ Held (view (A·Clock .meaning) (now (self .entry))) r (view (A·Clock .meaning) (now (self .exit))) ⌝ }
     {
         match shortest(&self.slots, self.moment) {
