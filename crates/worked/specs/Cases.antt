@@ -1,9 +1,13 @@
 -- The worked numbers as one table. What a case says is an equation on the definitions that contracts cite.
 -- Assumes nothing.
 use mathlib.Core.Path.{_≡_}
+use mathlib.Core.Bool.{false}
 use mathlib.Core.List.{List, [], _∷_}
-use Prim.Native.Nat.{ℕ, _<_}
+use Prim.Native.Nat.{ℕ, zero, suc, _<_}
 use lib.IntN.{ℤ, pos, negsuc}
+use lib.ListN.{length}
+use Rattle.std.specs.declared.option.Option.{Option}
+use Rattle.std.specs.declared.option.Option.the-variants.{Some, None}
 use Rattle.std.specs.declared.result.Result.{Result}
 use Rattle.std.specs.declared.result.Result.the-variants.{Ok, Err}
 use Rattle.fault.specs.declared.Fault.{Fault}
@@ -20,6 +24,15 @@ use Rattle.clock.specs.Down.{down-meaning}
 use Rattle.clock.specs.Widening.{widening-meaning}
 use Rattle.clock.specs.Rate.{rate-meaning}
 use Rattle.clock.specs.Lead.{lead-of}
+use Rattle.logger.specs.declared.jobs.Job.{Job}
+use Rattle.logger.specs.declared.jobs.Kind.{Kind}
+use Rattle.logger.specs.declared.jobs.Kind.the-variants.{Once, Every}
+use Rattle.logger.specs.declared.jobs.Action.the-variants.{Mark}
+use Rattle.logger.specs.declared.jobs.Firing.{Firing}
+use Rattle.logger.specs.State.{Log, slot-of}
+use Rattle.logger.specs.Slots.{set-up-slot}
+use Rattle.logger.specs.Calls.{served, after-set-up, next-answer, after-next}
+use Rattle.logger.specs.Making.{fresh}
 
 -- an up-counter of this width and reading, and a down-counter of this reload and last count
 abbrev pub up : ℕ → ℕ → Meaning Word
@@ -31,6 +44,28 @@ down reload last = down-meaning reload last 0 0
 -- a fresh layer with the rate q/p
 abbrev pub at-rate : {X : Type 0} → ℕ → ℕ → Meaning X → Meaning X
 at-rate q p below = rate-meaning below q p 0 0
+
+-- a set-up whose reference is the moment that it is made at
+pub record Entry : Type 0 where
+  pub slot : ℕ
+  pub delay : ℕ
+  pub job : Job
+
+abbrev pub entered : {X : Type 0} → List Entry → Log X → Log X
+entered [] l = l
+entered (e ∷ es) l =
+    entered es (after-set-up l (e .slot) (e .job) false (set-up-slot (l .moment) (e .slot) (slot-of l (e .slot)) (l .moment) (e .delay) (e .job)))
+
+-- what next answers, so many times in a row
+abbrev pub nexts : {X : Type 0} → ℕ → Log X → List (Option Firing)
+nexts zero l = []
+nexts (suc n) l = next-answer l ∷ nexts n (after-next l (next-answer l))
+
+abbrev pub marks : ℕ → ℕ → Kind → Entry
+marks slot delay kind = record { slot = slot; delay = delay; job = record { kind = kind; action = Mark } }
+
+abbrev pub marked : ℕ → ℕ → ℕ → Option Firing
+marked slot due at = Some (record { slot = slot; due = due; at = at; action = Mark })
 
 pub data Case : Type 0 where
   -- up-counter: width, reading, true ticks, the sample shown then
@@ -52,6 +87,8 @@ pub data Case : Type 0 where
   holds : ℕ → ℕ → ℕ → ℕ → ℕ → Case
   -- width, and the lead of one reading over another
   leads : ℕ → ℕ → ℕ → Result ℤ Fault → Case
+  -- a fresh logger over an up-counter: start, set-ups there, true ticks to the one sample, and what next answers from then on
+  fires : ℕ → List Entry → ℕ → List (Option Firing) → Case
 
 abbrev pub True : Case → Type 0
 True (up-shows w reading d sample) = up w reading .shown [] d ≡ record { 0 = sample }
@@ -64,6 +101,7 @@ True (measures q p d n) = at-rate q p (up 8 0) .measure d ≡ n
 True (measures-twice q p q′ p′ d n) = at-rate q′ p′ (at-rate q p (up 8 0)) .measure d ≡ n
 True (holds w q p left n) = hold-of (at-rate q p (up w 0)) (Standing left) ≡ n
 True (leads w a b r) = lead-of w a b ≡ r
+True (fires start es d answers) = nexts (length answers) (served (entered es (fresh 0 start (up 8 0))) d) ≡ answers
 
 abbrev pub cases : List Case
 cases =
@@ -83,6 +121,8 @@ cases =
     leads 8 5 250 (Ok (pos 11)) ∷
     leads 8 250 5 (Ok (negsuc 10)) ∷
     leads 8 130 2 (Err half-turn) ∷
+    fires 1000 (marks 2 10 (Every 10) ∷ marks 1 20 Once ∷ []) 25
+    (marked 2 1010 1025 ∷ marked 1 1020 1025 ∷ marked 2 1020 1025 ∷ None ∷ []) ∷
     []
 
 abbrev pub All-true : List Case → Type 0

@@ -18,6 +18,14 @@ use clock::widening::WideningClock;
 use fault::Cause;
 use fault::FaultDebug;
 use fault::FaultPartialEq;
+use logger::jobs::Action;
+use logger::jobs::Firing;
+use logger::jobs::FiringDebug;
+use logger::jobs::FiringPartialEq;
+use logger::jobs::Job;
+use logger::jobs::Kind;
+use logger::logger::Logger;
+use logger::moment::Moment;
 use std::test::*;
 
 #[test]
@@ -86,4 +94,35 @@ fn three_layers_across_wraps() -> Result<(), Fail> {
         let _ = down.take(Count((209 - 7 * step) % 10))?;
     }
     check_eq(down.reading(), 93)
+}
+
+fn marks(kind: Kind) -> Job {
+    Job {
+        kind,
+        action: Action::Mark,
+    }
+}
+
+fn marked(slot: usize, due: u64) -> Option<Firing> {
+    Some(Firing {
+        slot,
+        due,
+        at: 1025,
+        action: Action::Mark,
+    })
+}
+
+#[test]
+fn firings() -> Result<(), Fail> {
+    // at half the rate 50 true ticks, past a wrap of the counter, bring 25
+    let wide = Widening::new(UpCounter::new(8, Word(250), 0)?, Bits::new(8)?);
+    let stack = Rate::new(wide, Ratio::new(1, 2)?);
+    let mut logger = Logger::new(stack, 0, Moment::new(1000)?);
+    logger.set_up(2, 1000, 10, marks(Kind::Every { period: 10 }))?;
+    logger.set_up(1, 1000, 20, marks(Kind::Once))?;
+    check_eq(logger.serve(Word(44)), Ok(1025))?;
+    check_eq(logger.next(), marked(2, 1010))?;
+    check_eq(logger.next(), marked(1, 1020))?;
+    check_eq(logger.next(), marked(2, 1020))?;
+    check_eq(logger.next(), None)
 }

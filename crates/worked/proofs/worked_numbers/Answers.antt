@@ -24,5 +24,5 @@ hold-255 = refl
 pub returns : need.returns
 returns c = record {
   count = refl;
-  all = (refl, (no-256, (refl, (refl, (refl, (no-100, (refl, (refl, (refl, (refl, (hold-33, (hold-255, (refl, (refl, (refl, (refl, tt))))))))))))))));
+  all = (refl, (no-256, (refl, (refl, (refl, (no-100, (refl, (refl, (refl, (refl, (hold-33, (hold-255, (refl, (refl, (refl, (refl, (refl, tt)))))))))))))))));
 }
