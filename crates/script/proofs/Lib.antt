@@ -1,0 +1,3 @@
+pub mod Binds
+pub mod Cuts
+pub mod Extents
