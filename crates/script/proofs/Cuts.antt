@@ -10,7 +10,7 @@ use lib.ListN.{length, take, drop}
 use Rattle.std.specs.shelf.Lists.{All, leading}
 use Rattle.std.proofs.shelf.Tests.{eqb-true}
 use Rattle.words.specs.Words.{words-of, onto}
-use Rattle.script.specs.Script.{cut}
+use Rattle.script.specs.Script.{cut, other}
 use Rattle.script.specs.Text.{joined-by}
 
 -- no byte is c
@@ -65,10 +65,6 @@ module _ (c : ℕ) where
 pub cut-joined : (c : ℕ) (p : List ℕ) (ps : List (List ℕ)) → eqb c c ≡ true → All (Lacks c) (p ∷ ps) → cut c (joined-by c (p ∷ ps)) ≡ p ∷ ps
 cut-joined c p [] same h = cut-whole c p (h .0)
 cut-joined c p (q ∷ qs) same h = cut-front c p (joined-by c (q ∷ qs)) (h .0) same ∙ ap (λ xs. p ∷ xs) (cut-joined c q qs same (h .1))
-
--- a byte that is not c
-abbrev pub other : ℕ → ℕ → Bool
-other c b = not (eqb b c)
 
 pub cut-last : (c : ℕ) (s : List ℕ) → length s ≤ leading (other c) s → cut c s ≡ s ∷ []
 cut-last c [] h = refl

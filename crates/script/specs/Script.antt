@@ -1,6 +1,6 @@
 -- A whole script: its lines from the top, each with the slots that are still free, or the first fault.
 -- Assumes nothing.
-use mathlib.Core.Bool.{Bool, false, cond}
+use mathlib.Core.Bool.{Bool, false, cond, not}
 use mathlib.Core.List.{List, [], _∷_}
 use Prim.Native.Nat.{ℕ, _+_}
 use lib.Dec.{eqb}
@@ -17,6 +17,10 @@ use Rattle.script.specs.Line.{_>>=_, whole-line, line-of}
 abbrev pub cut : ℕ → List ℕ → List (List ℕ)
 cut c [] = [] ∷ []
 cut c (b ∷ bs) = cond (eqb b c) ([] ∷ cut c bs) (onto b (cut c bs))
+
+-- a byte other than c
+abbrev pub other : ℕ → ℕ → Bool
+other c b = not (eqb b c)
 
 -- after the last byte 10 nothing may stand; what does is judged as a line, and then for the byte that it lacks
 abbrev pub last-piece : ℕ → ℕ → List Bool → List ℕ → Result (List Line) Fault

@@ -1,7 +1,9 @@
 // Scripts: text that names a job for each of some slots, what it is read as, and when its jobs fire.
 mod cursor;
 mod lines;
+mod reading;
 mod word;
 
 pub use lines::Line;
 pub use lines::Script;
+pub use reading::read;

@@ -1,7 +1,7 @@
 // What a script that was read tells.
 ghost use mathlib.Core.Path.{_≡_};
 ghost use mathlib.Core.List.{[], _∷_, _++_};
-ghost use Prim.Native.Nat.{_<_};
+ghost use Prim.Native.Nat.{_+_, _<_};
 ghost use Rattle.script.specs.Lines.{lines-of};
 use super::Line;
 use super::Script;
@@ -12,7 +12,8 @@ use logger::jobs::Kind;
 impl Script {
     // A script with no line.
     pub fn new() -> Script
-        ensures { λ r. ⌜ lines-of r ≡ [] ⌝ }
+        ensures lines { λ r. ⌜ lines-of r ≡ [] ⌝ }
+        ensures count { λ r. ⌜ r .count ≡ 0 ⌝ }
     {
         let blank = Line {
             slot: 0,
@@ -36,7 +37,8 @@ impl Script {
 
     pub(crate) fn add(&mut self, line: Line)
         requires { ⌜ now self .count < 32 ⌝ }
-        ensures { λ _. ⌜ lines-of (now (self .exit)) ≡ lines-of (now (self .entry)) ++ line ∷ [] ⌝ }
+        ensures lines { λ _. ⌜ lines-of (now (self .exit)) ≡ lines-of (now (self .entry)) ++ line ∷ [] ⌝ }
+        ensures count { λ _. ⌜ now (self .exit) .count ≡ now (self .entry) .count + 1 ⌝ }
     {
         self.lines[self.count] = line;
         self.count += 1;
