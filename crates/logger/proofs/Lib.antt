@@ -1,1 +1,4 @@
 pub mod Soonest
+pub mod Planned
+pub mod Least
+pub mod Fitting

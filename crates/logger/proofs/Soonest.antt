@@ -55,7 +55,7 @@ pub record Best (s j : ℕ) (slots : List Slot) (f : Firing) : Type 0 where
   pub least : (k n : ℕ) (g : Firing) → coming s n (getD slots k Free) ≡ Some g → f .due ≤ g .due
   pub lowest : (k n : ℕ) (g : Firing) → k < place → coming s n (getD slots k Free) ≡ Some g → f .due < g .due
 
-abbrev Answer : ℕ → ℕ → List Slot → Option Firing → Type 0
+abbrev pub Answer : ℕ → ℕ → List Slot → Option Firing → Type 0
 Answer s j slots None = (k n : ℕ) → coming s n (getD slots k Free) ≡ None
 Answer s j slots (Some f) = Best s j slots f
 

@@ -2,3 +2,7 @@
 pub mod State
 pub mod Slots
 pub mod Calls
+pub mod Dues
+pub mod Agenda
+pub mod Within
+pub mod Making
