@@ -1,7 +1,10 @@
--- Scripts: their lines and the faults in them, and the text of lines.
+-- Scripts: their lines and the faults in them, the text of lines, and when their jobs fire.
 pub mod Line
 pub mod Extent
 pub mod Cursor
 pub mod Script
 pub mod Lines
 pub mod Text
+pub mod Pending
+pub mod Plan
+pub mod Forecast
