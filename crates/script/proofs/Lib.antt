@@ -11,3 +11,5 @@ pub mod Letters
 pub mod Numbers
 pub mod Pieces
 pub mod Rows
+pub mod Pages
+pub mod Listed

@@ -1,4 +1,4 @@
--- Scripts: their lines and the faults in them, the text of lines, and when their jobs fire.
+-- Scripts: their lines and the faults in them, the text of lines, when their jobs fire, and the listing of that.
 pub mod Line
 pub mod Extent
 pub mod Cursor
@@ -8,3 +8,5 @@ pub mod Text
 pub mod Pending
 pub mod Plan
 pub mod Forecast
+pub mod Page
+pub mod Listing

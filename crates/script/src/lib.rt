@@ -2,6 +2,8 @@
 mod cursor;
 mod forecasting;
 mod lines;
+mod listings;
+mod page;
 mod pending;
 mod plan;
 mod reading;
@@ -10,4 +12,5 @@ mod word;
 pub use forecasting::forecast;
 pub use lines::Line;
 pub use lines::Script;
+pub use listings::listing;
 pub use reading::read;
