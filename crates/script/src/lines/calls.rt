@@ -11,7 +11,7 @@ use logger::jobs::Kind;
 
 impl Script {
     // A script with no line.
-    pub fn new() -> Script
+    pub(crate) fn new() -> Script
         ensures lines { λ r. ⌜ lines-of r ≡ [] ⌝ }
         ensures count { λ r. ⌜ r .count ≡ 0 ⌝ }
     {
