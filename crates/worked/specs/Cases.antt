@@ -2,8 +2,9 @@
 -- Assumes nothing.
 use mathlib.Core.Path.{_≡_}
 use mathlib.Core.Bool.{false}
-use mathlib.Core.List.{List, [], _∷_}
+use mathlib.Core.List.{List, [], _∷_, _++_}
 use Prim.Native.Nat.{ℕ, zero, suc, _<_}
+use lib.Chars.{codes}
 use lib.IntN.{ℤ, pos, negsuc}
 use lib.ListN.{length}
 use Rattle.std.specs.declared.option.Option.{Option}
@@ -24,6 +25,7 @@ use Rattle.clock.specs.Down.{down-meaning}
 use Rattle.clock.specs.Widening.{widening-meaning}
 use Rattle.clock.specs.Rate.{rate-meaning}
 use Rattle.clock.specs.Lead.{lead-of}
+use Rattle.script.specs.Listing.{listing-text}
 use Rattle.logger.specs.declared.jobs.Job.{Job}
 use Rattle.logger.specs.declared.jobs.Kind.{Kind}
 use Rattle.logger.specs.declared.jobs.Kind.the-variants.{Once, Every}
@@ -89,6 +91,8 @@ pub data Case : Type 0 where
   leads : ℕ → ℕ → ℕ → Result ℤ Fault → Case
   -- a fresh logger over an up-counter: start, set-ups there, true ticks to the one sample, and what next answers from then on
   fires : ℕ → List Entry → ℕ → List (Option Firing) → Case
+  -- a script, and its listing
+  lists : List ℕ → List ℕ → Case
 
 abbrev pub True : Case → Type 0
 True (up-shows w reading d sample) = up w reading .shown [] d ≡ record { 0 = sample }
@@ -102,6 +106,12 @@ True (measures-twice q p q′ p′ d n) = at-rate q′ p′ (at-rate q p (up 8 0
 True (holds w q p left n) = hold-of (at-rate q p (up w 0)) (Standing left) ≡ n
 True (leads w a b r) = lead-of w a b ≡ r
 True (fires start es d answers) = nexts (length answers) (served (entered es (fresh 0 start (up 8 0))) d) ≡ answers
+True (lists script text) = listing-text script ≡ text
+
+-- lines of text, byte 10 after each
+abbrev pub text-lines : List (List ℕ) → List ℕ
+text-lines [] = []
+text-lines (l ∷ ls) = l ++ (10 ∷ text-lines ls)
 
 abbrev pub cases : List Case
 cases =
@@ -123,6 +133,8 @@ cases =
     leads 8 130 2 (Err half-turn) ∷
     fires 1000 (marks 2 10 (Every 10) ∷ marks 1 20 Once ∷ []) 25
     (marked 2 1010 1025 ∷ marked 1 1020 1025 ∷ marked 2 1020 1025 ∷ None ∷ []) ∷
+    lists (text-lines (codes "2 burst 3 10 0 read 1" ∷ codes "1 once 10 mark" ∷ []))
+    (text-lines (codes "0 2" ∷ codes "10 1" ∷ codes "10 2" ∷ codes "20 2" ∷ [])) ∷
     []
 
 abbrev pub All-true : List Case → Type 0

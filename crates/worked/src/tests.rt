@@ -26,6 +26,7 @@ use logger::jobs::Job;
 use logger::jobs::Kind;
 use logger::logger::Logger;
 use logger::moment::Moment;
+use script::listings::listing;
 use std::test::*;
 
 #[test]
@@ -125,4 +126,14 @@ fn firings() -> Result<(), Fail> {
     check_eq(logger.next(), marked(1, 1020))?;
     check_eq(logger.next(), marked(2, 1020))?;
     check_eq(logger.next(), None)
+}
+
+#[test]
+fn listings() -> Result<(), Fail> {
+    let mut buffer = [0u8; 32];
+    let script = b"2 burst 3 10 0 read 1\n1 once 10 mark\n";
+    check_eq(listing(script, &mut buffer), Ok(19))?;
+    check_eq(buffer[0], b'0')?;
+    check_eq(buffer[18], b'\n')?;
+    check_eq(buffer[19], 0)
 }
