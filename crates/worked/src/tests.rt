@@ -26,7 +26,7 @@ use logger::jobs::Job;
 use logger::jobs::Kind;
 use logger::logger::Logger;
 use logger::moment::Moment;
-use script::listings::listing;
+use script::listing;
 use std::test::*;
 
 #[test]
