@@ -11,7 +11,7 @@ use Rattle.fault.specs.Text.{fault-text}
 use Rattle.logger.specs.declared.jobs.Action.{Action}
 use Rattle.logger.specs.declared.jobs.Action.the-variants.{Read, Mark}
 use Rattle.replay.specs.declared.answer.Answer.{Answer}
-use Rattle.replay.specs.declared.answer.Answer.the-variants.{Ready, Width, Reach, Reading, Took, Set, Stopped, Claimed, Hold, LoggerReady, Served, SetUp, Ticket, Settled, NoTicket, CalledOff, Fired, NoneDue, Refused, NoClock, NotUnderstood}
+use Rattle.replay.specs.declared.answer.Answer.the-variants.{Ready, Width, Reach, Reading, Took, Set, Stopped, Claimed, Hold, LoggerReady, Served, SetUp, Ticket, Settled, NoTicket, CalledOff, Fired, NoneDue, Loaded, Refused, NoClock, NotUnderstood}
 
 abbrev pub action-text : Action → List ℕ
 action-text (Read channel) = codes "read " ++ decimal channel
@@ -38,6 +38,7 @@ answer-text (CalledOff due) = codes "called off " ++ decimal due
 answer-text (Fired firing) =
     codes "fired " ++ (decimal (firing .slot) ++ (codes " " ++ (decimal (firing .due) ++ (codes " " ++ (decimal (firing .at) ++ (codes " " ++ action-text (firing .action)))))))
 answer-text NoneDue = codes "none"
+answer-text Loaded = codes "loaded"
 answer-text (Refused fault) = fault-text fault
 answer-text NoClock = codes "no clock yet"
 answer-text (NotUnderstood line) = codes "line " ++ (decimal line ++ codes " not understood")

@@ -34,6 +34,8 @@ pub enum Answer {
     CalledOff(u64),
     Fired(Firing),
     NoneDue,
+    // a script was loaded
+    Loaded,
     Refused(Fault),
     NoClock,
     // the number of the line
@@ -81,6 +83,7 @@ pub impl fmt::Display for Answer as AnswerDisplay {
                 }
             }
             Answer::NoneDue => write!(f, "none"),
+            Answer::Loaded => write!(f, "loaded"),
             Answer::Refused(fault) => write!(f, "{fault}"),
             Answer::NoClock => write!(f, "no clock yet"),
             Answer::NotUnderstood(line) => write!(f, "line {line} not understood"),

@@ -16,6 +16,8 @@ pub enum Command {
     Ask(Call<u64>),
     Logger { number: u16, start: u64 },
     Log(LogCall<u64>),
+    // the lines that follow are a script
+    Load,
 }
 
 impl Command {
@@ -60,6 +62,7 @@ impl Command {
                 slot: slot(&mut words)?,
             }),
             b"next" => Command::Log(LogCall::Next),
+            b"load" => Command::Load,
             _ => return None,
         };
         match words.next() {

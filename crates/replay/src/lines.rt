@@ -48,6 +48,21 @@ impl Lines {
         self.number
     }
 
+    // Reads lines up to one that is a single `.`, and gives them as one text; none where the input ends first.
+    pub fn script(&mut self) -> io::Result<Option<Vec<u8, Global>>> {
+        let mut script = Vec::new(self.rt.alloc());
+        for _ in 0..u64::MAX {
+            if !self.advance()? {
+                break;
+            }
+            if let b"." = self.text() {
+                return Ok(Some(script));
+            }
+            script.extend_from_slice(self.line.as_slice())?;
+        }
+        Ok(None)
+    }
+
     pub fn heap(&self) -> Global {
         self.rt.alloc()
     }

@@ -45,6 +45,7 @@ fn until_stack<X: Raw, A: Alarm<Sample = X>>(
         let answer = match Command::parse(lines.text()) {
             Some(Command::Log(call)) => ask(logger, tickets, tag, call)?,
             Some(Command::Ask(Call::Hold)) => ask(logger, tickets, tag, LogCall::Hold)?,
+            Some(Command::Load) => load(logger, lines)?,
             Some(Command::Build(plan)) => match Stack::build(plan) {
                 Ok(stack) => return Ok(Some(stack)),
                 Err(fault) => Answer::Refused(fault),
@@ -54,6 +55,20 @@ fn until_stack<X: Raw, A: Alarm<Sample = X>>(
         lines.print(answer)?;
     }
     Ok(None)
+}
+
+// Loads the script that follows, all of it or nothing.
+fn load<A: Alarm>(logger: &mut Logger<A>, lines: &mut Lines) -> io::Result<Answer> {
+    let number = lines.number();
+    Ok(
+        match lines.script()? {
+            None => Answer::NotUnderstood(number),
+            Some(script) => match script::load(logger, script.as_slice()) {
+                Ok(()) => Answer::Loaded,
+                Err(fault) => Answer::Refused(fault),
+            },
+        },
+    )
 }
 
 // A sample with more bits than a register is one that no hardware shows.

@@ -155,7 +155,7 @@ fn answer_lines<X: Raw, A: Alarm<Sample = X> + Drop>(
         let answer = match Command::parse(lines.text()) {
             None => Answer::NotUnderstood(lines.number()),
             Some(Command::Ask(call)) => ask(&mut alarm, tag, call),
-            Some(Command::Log(_)) => Answer::NotUnderstood(lines.number()),
+            Some(Command::Log(_) | Command::Load) => Answer::NotUnderstood(lines.number()),
             Some(Command::Logger { number, start }) => match Moment::new(start) {
                 Ok(start) => {
                     lines.print(Answer::LoggerReady)?;

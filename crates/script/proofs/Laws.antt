@@ -67,7 +67,7 @@ still-other free s j e same = true≢false (sym e ∙ ap (λ k. getD (set free s
 still-free : (free : List Bool) (s j : ℕ) → getD (set free s false) j false ≡ true → getD free j false ≡ true
 still-free free s j e = sym (getD-set-other free s j false false (still-other free s j e)) ∙ e
 
-lawful-later : (free : List Bool) (s : ℕ) (ls : List Line) → All (Lawful free) ls → All (λ m. m .slot ≡ s → ⊥) ls → All (Lawful (set free s false)) ls
+pub lawful-later : (free : List Bool) (s : ℕ) (ls : List Line) → All (Lawful free) ls → All (λ m. m .slot ≡ s → ⊥) ls → All (Lawful (set free s false)) ls
 lawful-later free s [] h d = tt
 lawful-later free s (l ∷ ls) h d =
     ((h .0 .0, getD-set-other free s (l .slot) false false (d .0) ∙ h .0 .1, h .0 .2), lawful-later free s ls (h .1) (d .1))

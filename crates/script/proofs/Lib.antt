@@ -13,3 +13,4 @@ pub mod Pieces
 pub mod Rows
 pub mod Pages
 pub mod Listed
+pub mod Loads

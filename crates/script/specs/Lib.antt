@@ -10,3 +10,4 @@ pub mod Plan
 pub mod Forecast
 pub mod Page
 pub mod Listing
+pub mod Load
