@@ -1,11 +1,9 @@
 // What `replay` answers to the lines of a log, and the text of each answer.
-ghost use Rattle·std.specs.declared.option.Option.the-variants.{Some};
-ghost use Rattle·answers·specs.Text.{alarm-text, fired-text, logger-text, answer-text};
+ghost use Rattle.std.specs.Prelude.{Some};
+ghost use Rattle.answers.specs.Text.{alarm_text, fired_text, logger_text, answer_text};
+
 use fault::Fault;
-use fault::FaultDisplay;
-use jobs::Action;
-use jobs::Firing;
-use jobs::Outcome;
+use jobs::{Action, Firing, Outcome};
 use std::fmt;
 
 #[derive(Clone, Copy)]
@@ -53,8 +51,8 @@ pub enum LoggerAnswer {
     Loaded,
 }
 
-pub impl fmt::Display for Answer as AnswerDisplay {
-    ghost shown = { λ a. Some (answer-text a) };
+impl fmt::Display for Answer {
+    ghost output = { λ a. Some (answer_text a) };
 
     fn fmt<W: fmt::Write>(&self, f: &mut fmt::Formatter<W>) -> fmt::Result {
         match *self {
@@ -70,8 +68,8 @@ pub impl fmt::Display for Answer as AnswerDisplay {
     }
 }
 
-pub impl fmt::Display for AlarmAnswer as AlarmAnswerDisplay {
-    ghost shown = { λ a. Some (alarm-text a) };
+impl fmt::Display for AlarmAnswer {
+    ghost output = { λ a. Some (alarm_text a) };
 
     fn fmt<W: fmt::Write>(&self, f: &mut fmt::Formatter<W>) -> fmt::Result {
         match *self {
@@ -88,8 +86,8 @@ pub impl fmt::Display for AlarmAnswer as AlarmAnswerDisplay {
     }
 }
 
-pub impl fmt::Display for LoggerAnswer as LoggerAnswerDisplay {
-    ghost shown = { λ a. Some (logger-text a) };
+impl fmt::Display for LoggerAnswer {
+    ghost output = { λ a. Some (logger_text a) };
 
     fn fmt<W: fmt::Write>(&self, f: &mut fmt::Formatter<W>) -> fmt::Result {
         match *self {
@@ -115,8 +113,8 @@ pub struct Fired {
     firing: Firing,
 }
 
-pub impl fmt::Display for Fired as FiredDisplay {
-    ghost shown = { λ a. Some (fired-text (a .firing)) };
+impl fmt::Display for Fired {
+    ghost output = { λ a. Some (fired_text a.firing) };
 
     fn fmt<W: fmt::Write>(&self, f: &mut fmt::Formatter<W>) -> fmt::Result {
         let slot = self.firing.slot;

@@ -1,6 +1,5 @@
 // A book: records in the order in which they came, in a row that the caller lends.
-ghost use Prim.Native.Nat.{_≤_};
-ghost use lib.ListN.{length};
+ghost use Rattle.std.specs.Prelude.{◌≤◌, length};
 
 // The calls stand apart, since their contracts cite definitions over this struct.
 mod calls;
@@ -10,5 +9,5 @@ mod calls;
 pub struct Book<'a, T> {
     row: &'a mut [T],
     count: usize,
-    ghost within: { count ≤ length (row .now) },
+    ghost within: { count ≤ length row.now },
 }

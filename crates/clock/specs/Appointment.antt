@@ -1,21 +1,15 @@
 -- The appointment of an alarm: what each event makes of it and answers, a row of the table each.
 -- Assumes nothing.
-use mathlib.Core.Bool.{Bool, true, false, cond, _&&_}
-use Prim.Native.Nat.{ℕ, _-_, _^_, _<_, _≤_}
-use lib.Dec.{ltb, leb}
-use Rattle·std.specs.declared.option.Option.{Option}
-use Rattle·std.specs.declared.option.Option.the-variants.{Some, None}
-use Rattle·std.specs.declared.result.Result.{Result}
-use Rattle·std.specs.declared.result.Result.the-variants.{Ok, Err}
-use Rattle·fault.specs.declared.Fault.{Fault}
-use Rattle·fault.specs.Table.{not-idle, alarm-limits}
-use Rattle·clock·specs.declared.appointment.Appointment.{Appointment}
-use Rattle·clock·specs.declared.appointment.Appointment.the-variants.{Idle, Standing, Due}
-use Rattle·clock·specs.declared.appointment.Event.{Event}
-use Rattle·clock·specs.declared.appointment.Event.the-variants.{Take, Set, Stop, Claim}
-use Rattle·clock·specs.declared.appointment.Reply.{Reply}
-use Rattle·clock·specs.declared.appointment.Reply.the-variants.{Kept, Refused, Stopped, Claimed}
-use Rattle·clock·specs.Wrap.{plus, minus}
+use Rattle.std.specs.Prelude.{ℕ, ◌-◌, ◌^◌, ◌<◌, ◌≤◌, Bool, true, false, cond, ◌&&◌, Some, None, Ok, Err, Option, Result, nat_lt}
+use Rattle.fault.specs.declared.Fault.{Fault}
+use Rattle.fault.specs.Table.{not_idle, alarm_limits}
+use Rattle.clock.specs.declared.appointment.Appointment.{Appointment}
+use Rattle.clock.specs.declared.appointment.Appointment.TheVariants.{Idle, Standing, Due}
+use Rattle.clock.specs.declared.appointment.Event.{Event}
+use Rattle.clock.specs.declared.appointment.Event.TheVariants.{Take, Set, Stop, Claim}
+use Rattle.clock.specs.declared.appointment.Reply.{Reply}
+use Rattle.clock.specs.declared.appointment.Reply.TheVariants.{Kept, Refused, Stopped, Claimed}
+use Rattle.clock.specs.Wrap.{plus, minus}
 
 -- the number that an appointment holds, ticks or a point, and 0 where it is idle
 abbrev pub held : Appointment → ℕ
@@ -24,46 +18,46 @@ held (Standing left) = left
 held (Due point) = point
 
 -- the ticks left, and 1 where none are counted
-abbrev pub left-in : Appointment → ℕ
-left-in Idle = 1
-left-in (Standing left) = left
-left-in (Due point) = 1
+abbrev pub left_in : Appointment → ℕ
+left_in Idle = 1
+left_in (Standing left) = left
+left_in (Due point) = 1
 
 -- what is left is at least one tick, and like a point of a clock of width w it lies below 2^w
 abbrev pub Sound : ℕ → Appointment → Type 0
-Sound w a = (1 ≤ left-in a) × (held a < 2 ^ w)
+Sound w a = (1 ≤ left_in a) × (held a < 2 ^ w)
 
 -- a take that gains ticks from a reading on: the appointment falls due where all that was left has passed
-abbrev pub after-take : ℕ → ℕ → ℕ → Appointment → Appointment
-after-take w from gained Idle = Idle
-after-take w from gained (Standing left) = cond (ltb gained left) (Standing (left - gained)) (Due (plus w from left))
-after-take w from gained (Due point) = Due point
+abbrev pub after_take : ℕ → ℕ → ℕ → Appointment → Appointment
+after_take w from gained Idle = Idle
+after_take w from gained (Standing left) = cond (nat_lt gained left) (Standing (left - gained)) (Due (plus w from left))
+after_take w from gained (Due point) = Due point
 
 -- a new appointment, delay ticks after the reference: by its age it stands or is due already
 abbrev pub placed : ℕ → ℕ → ℕ → ℕ → Appointment
 placed w reading reference delay =
-    cond (ltb (minus w reading reference) delay) (Standing (delay - minus w reading reference))
+    cond (nat_lt (minus w reading reference) delay) (Standing (delay - minus w reading reference))
     (Due (plus w reference delay))
 
 -- only an idle appointment can be set
-abbrev pub set-row : ℕ → ℕ → ℕ → ℕ → Appointment → Result Appointment Fault
-set-row w reading reference delay Idle = Ok (placed w reading reference delay)
-set-row w reading reference delay (Standing left) = Err not-idle
-set-row w reading reference delay (Due point) = Err not-idle
+abbrev pub set_row : ℕ → ℕ → ℕ → ℕ → Appointment → Result Appointment Fault
+set_row w reading reference delay Idle = Ok (placed w reading reference delay)
+set_row w reading reference delay (Standing left) = Err not_idle
+set_row w reading reference delay (Due point) = Err not_idle
 
 -- a set: the two numbers are judged first
 abbrev pub setting : ℕ → ℕ → ℕ → ℕ → Appointment → Result Appointment Fault
 setting w reading reference delay a =
-    cond (ltb reference (2 ^ w) && ltb delay (2 ^ w)) (set-row w reading reference delay a) (Err alarm-limits)
+    cond (nat_lt reference (2 ^ w) && nat_lt delay (2 ^ w)) (set_row w reading reference delay a) (Err alarm_limits)
 
 -- the answer of a set, and the appointment that it leaves
 abbrev pub told : Result Appointment Fault → Result (Unit {0}) Fault
 told (Ok a) = Ok tt
 told (Err f) = Err f
 
-abbrev pub left-by : Result Appointment Fault → Appointment → Appointment
-left-by (Ok a) before = a
-left-by (Err f) before = before
+abbrev pub left_by : Result Appointment Fault → Appointment → Appointment
+left_by (Ok a) before = a
+left_by (Err f) before = before
 
 -- a stop leaves an idle appointment, and answers whether it was another
 abbrev pub stops : Appointment → Bool
@@ -77,18 +71,18 @@ claims Idle = None
 claims (Standing left) = None
 claims (Due point) = Some point
 
-abbrev pub after-claim : Appointment → Appointment
-after-claim Idle = Idle
-after-claim (Standing left) = Standing left
-after-claim (Due point) = Idle
+abbrev pub after_claim : Appointment → Appointment
+after_claim Idle = Idle
+after_claim (Standing left) = Standing left
+after_claim (Due point) = Idle
 
 -- the whole table: state and event give the next state and the reply
-abbrev pub set-reply : Appointment → Result Appointment Fault → Appointment × Reply
-set-reply before (Ok a) = (a, Kept)
-set-reply before (Err f) = (before, Refused)
+abbrev pub set_reply : Appointment → Result Appointment Fault → Appointment × Reply
+set_reply before (Ok a) = (a, Kept)
+set_reply before (Err f) = (before, Refused)
 
 abbrev pub table : Appointment → Event → Appointment × Reply
-table a (Take gain) = (after-take (gain .width .bits) (gain .from) (gain .gained) a, Kept)
-table a (Set request) = set-reply a (set-row (request .width .bits) (request .reading) (request .reference) (request .delay) a)
+table a (Take gain) = (after_take gain.width.bits gain.from gain.gained a, Kept)
+table a (Set request) = set_reply a (set_row request.width.bits request.reading request.reference request.delay a)
 table a Stop = (Idle, Stopped (stops a))
-table a Claim = (after-claim a, Claimed (claims a))
+table a Claim = (after_claim a, Claimed (claims a))

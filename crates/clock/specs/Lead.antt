@@ -1,31 +1,24 @@
 -- The lead of one reading over another: how far it is ahead, by the shorter way round, and no answer at half a turn.
 -- Assumes nothing.
-use mathlib.Core.Bool.{_&&_, cond}
-use mathlib.Core.Path.{_≡_}
-use mathlib.Core.Logic.{_⊎_}
-use Prim.Native.Nat.{ℕ, _+_, _-_, _^_, _<_, _≤_}
-use lib.Dec.{ltb, leb}
-use lib.IntN.{ℤ, pos, negsuc, _-ℤ_, negℤ}
-use Rattle·std.specs.declared.result.Result.{Result}
-use Rattle·std.specs.declared.result.Result.the-variants.{Ok, Err}
-use Rattle·fault.specs.declared.Fault.{Fault}
-use Rattle·fault.specs.Table.{bad-lead-width, lead-limits, half-turn}
-use Rattle·clock·specs.Wrap.{plus, minus}
+use Rattle.std.specs.Prelude.{◌≡◌, ℕ, ◌+◌, ◌-◌, ◌^◌, ◌<◌, ◌≤◌, cond, ◌&&◌, ◌⊎◌, ℤ, pos, negsuc, ◌-ℤ◌, neg_ℤ, Ok, Err, Result, nat_le, nat_lt}
+use Rattle.fault.specs.declared.Fault.{Fault}
+use Rattle.fault.specs.Table.{bad_lead_width, lead_limits, half_turn}
+use Rattle.clock.specs.Wrap.{plus, minus}
 
 -- d is the way up from the one to the other: past half a turn the way down is the shorter one
-abbrev pub lead-at : ℕ → ℕ → Result ℤ Fault
-lead-at half d = cond (ltb d half) (Ok (pos d)) (cond (ltb half d) (Ok (pos d -ℤ pos (half + half))) (Err half-turn))
+abbrev pub lead_at : ℕ → ℕ → Result ℤ Fault
+lead_at half d = cond (nat_lt d half) (Ok (pos d)) (cond (nat_lt half d) (Ok (pos d -ℤ pos (half + half))) (Err half_turn))
 
 -- the lead of a over b: the width is judged first, then the readings
-abbrev pub lead-of : ℕ → ℕ → ℕ → Result ℤ Fault
-lead-of w a b =
-    cond (leb 2 w && leb w 48)
-    (cond (ltb a (2 ^ w) && ltb b (2 ^ w)) (lead-at (2 ^ (w - 1)) (minus w a b)) (Err lead-limits))
-    (Err bad-lead-width)
+abbrev pub lead_of : ℕ → ℕ → ℕ → Result ℤ Fault
+lead_of w a b =
+    cond (nat_le 2 w && nat_le w 48)
+    (cond (nat_lt a (2 ^ w) && nat_lt b (2 ^ w)) (lead_at (2 ^ (w - 1)) (minus w a b)) (Err lead_limits))
+    (Err bad_lead_width)
 
 -- the lead with its sign changed; a refusal stays what it is
 abbrev pub turned : Result ℤ Fault → Result ℤ Fault
-turned (Ok lead) = Ok (negℤ lead)
+turned (Ok lead) = Ok (neg_ℤ lead)
 turned (Err fault) = Err fault
 
 -- the addition of serial numbers: only a number below half a turn may be added to a reading

@@ -1,7 +1,6 @@
 -- What a maker answers, told by a view of the thing made.
 -- Assumes nothing.
-use Rattle·std.specs.declared.result.Result.{Result}
-use Rattle·std.specs.declared.result.Result.the-variants.{Ok, Err}
+use Rattle.std.specs.Prelude.{Ok, Err, Result}
 
 abbrev pub seen : {C V E : Type 0} → (C → V) → Result C E → Result V E
 seen view (Ok made) = Ok (view made)

@@ -1,9 +1,7 @@
 -- What a clock means: its width, reading, reach, the samples that its hardware shows, its measure and its tag; and the laws of these.
 -- Assumes nothing.
-use mathlib.Core.Path.{_≡_}
-use mathlib.Core.List.{List, [], _∷_}
-use Prim.Native.Nat.{ℕ, _+_, _-_, _^_, _<_, _≤_}
-use Rattle·clock·specs.Wrap.{plus}
+use Rattle.std.specs.Prelude.{◌≡◌, ℕ, ◌+◌, ◌-◌, ◌^◌, ◌<◌, ◌≤◌, List, [], ◌∷◌}
+use Rattle.clock.specs.Wrap.{plus}
 
 -- X is the kind of sample. A true tick is one step of the hardware counter.
 pub record Meaning (X : Type 0) : Type 0 where
@@ -24,24 +22,24 @@ pub record Counts (measure : ℕ → ℕ) : Type 0 where
   pub slow : (d : ℕ) → measure (d + 1) ≤ measure d + 1
 
 pub record Lawful {X : Type 0} (m : Meaning X) : Type 0 where
-  pub width-low : 8 ≤ m .width
-  pub width-high : m .width ≤ 48
-  pub reading-fits : m .reading < 2 ^ m .width
-  pub reach-low : 2 ≤ m .reach
-  pub reach-high : m .reach ≤ 2 ^ 32
-  pub reach-fits : m .reach ≤ 2 ^ m .width
-  pub counts : Counts (m .measure)
-  pub apart : (d e : ℕ) → d < m .reach → e < m .reach → m .shown [] d ≡ m .shown [] e → d ≡ e
+  pub width_low : 8 ≤ m.width
+  pub width_high : m.width ≤ 48
+  pub reading_fits : m.reading < 2 ^ m.width
+  pub reach_low : 2 ≤ m.reach
+  pub reach_high : m.reach ≤ 2 ^ 32
+  pub reach_fits : m.reach ≤ 2 ^ m.width
+  pub counts : Counts m.measure
+  pub apart : (d e : ℕ) → d < m.reach → e < m.reach → m.shown [] d ≡ m.shown [] e → d ≡ e
 
 -- the clock after the sample that is shown at d was accepted
 abbrev pub advanced : {X : Type 0} → Meaning X → ℕ → Meaning X
 advanced m d = record {
-  width = m .width;
-  reading = plus (m .width) (m .reading) (m .measure d);
-  reach = m .reach;
-  shown = λ ds e. m .shown (d ∷ ds) e;
-  measure = λ x. m .measure (d + x) - m .measure d;
-  tag = m .tag;
+  width = m.width;
+  reading = plus m.width m.reading (m.measure d);
+  reach = m.reach;
+  shown = λ ds e. m.shown (d ∷ ds) e;
+  measure = λ x. m.measure (d + x) - m.measure d;
+  tag = m.tag;
 }
 
 -- the true ticks of several distances together

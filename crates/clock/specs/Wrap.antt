@@ -1,6 +1,6 @@
 -- Readings that wrap: sums and differences modulo 2^w.
 -- Assumes nothing.
-use Prim.Native.Nat.{ℕ, _+_, _-_, _%_, _^_}
+use Rattle.std.specs.Prelude.{ℕ, ◌+◌, ◌-◌, ◌%◌, ◌^◌}
 
 -- (a + b) mod 2^w
 abbrev pub plus : ℕ → ℕ → ℕ → ℕ

@@ -1,10 +1,10 @@
 // The one appointment of an alarm, and the table of what each event makes of it.
-ghost use mathlib.Core.Path.{_≡_};
-ghost use Rattle·clock·specs.Appointment.{Sound, after-take, placed, setting, told, left-by, stops, claims, after-claim, table};
-ghost use Rattle·clock·specs.declared.appointment.Appointment.the-variants.{Idle, Standing};
+ghost use Rattle.std.specs.Prelude.{◌≡◌};
+ghost use Rattle.clock.specs.Appointment.{Sound, after_take, placed, setting, told, left_by, stops, claims, after_claim, table};
+ghost use Rattle.clock.specs.declared.appointment.Appointment.TheVariants.{Idle, Standing};
+
 use crate::width::Width;
-use fault::Cause;
-use fault::Fault;
+use fault::{Cause, Fault};
 
 #[derive(Clone, Copy, PartialEq, Eq, Debug)]
 pub enum Appointment {
@@ -54,7 +54,7 @@ pub enum Reply {
 impl Appointment {
     // The table, a cell for each state and event. Deadlines are judged by the ticks left, never by comparing readings.
     fn respond(self, event: Event) -> (Appointment, Reply)
-        ensures { λ r. ⌜ r ≡ table self event ⌝ }
+        ensures { result ≡ table self event }
     {
         match (self, event) {
             (Self::Idle, Event::Take(_)) => (Self::Idle, Reply::Kept),
@@ -74,7 +74,7 @@ impl Appointment {
 
     // A standing appointment falls due where all that was left has passed.
     fn run_down(left: u64, gain: Gain) -> Appointment
-        ensures { λ r. ⌜ r ≡ after-take (gain .width .bits) (gain .from) (gain .gained) (Standing left) ⌝ }
+        ensures { result ≡ after_take gain.width.bits gain.from gain.gained (Standing left) }
     {
         if gain.gained < left {
             Self::Standing(left - gain.gained)
@@ -85,7 +85,7 @@ impl Appointment {
 
     // A new appointment: it stands if the delay is longer than the reference is old.
     fn placed(request: Request) -> Appointment
-        ensures { λ r. ⌜ r ≡ placed (request .width .bits) (request .reading) (request .reference) (request .delay) ⌝ }
+        ensures { result ≡ placed request.width.bits request.reading request.reference request.delay }
     {
         let age = request.width.difference(request.reading, request.reference);
         if age < request.delay {
@@ -97,9 +97,9 @@ impl Appointment {
 
     // The clock gained ticks from this reading on.
     pub(crate) fn take(&mut self, width: Width, from: u64, gained: u64)
-        requires { ⌜ Sound (width .bits) (now self) ⌝ }
-        ensures after { λ _. ⌜ now (self .exit) ≡ after-take (width .bits) from gained (now (self .entry)) ⌝ }
-        ensures sound { λ _. ⌜ Sound (width .bits) (now (self .exit)) ⌝ }
+        requires { Sound width.bits self.old }
+        ensures after { self.new ≡ after_take width.bits from gained self.old }
+        ensures sound { Sound width.bits self.new }
     {
         let gain = Gain {
             width,
@@ -118,10 +118,10 @@ impl Appointment {
         reference: u64,
         delay: u64,
     ) -> Result<(), Fault>
-        requires { ⌜ Sound (width .bits) (now self) ⌝ }
-        ensures answer { λ r. ⌜ r ≡ told (setting (width .bits) reading reference delay (now (self .entry))) ⌝ }
-        ensures after { λ _. ⌜ now (self .exit) ≡ left-by (setting (width .bits) reading reference delay (now (self .entry))) (now (self .entry)) ⌝ }
-        ensures sound { λ _. ⌜ Sound (width .bits) (now (self .exit)) ⌝ }
+        requires { Sound width.bits self.old }
+        ensures answer { result ≡ told (setting width.bits reading reference delay self.old) }
+        ensures after { self.new ≡ left_by (setting width.bits reading reference delay self.old) self.old }
+        ensures sound { Sound width.bits self.new }
     {
         let turn = width.turn();
         if reference >= turn || delay >= turn {
@@ -143,8 +143,8 @@ impl Appointment {
 
     // Gives the appointment up; answers whether there was one.
     pub(crate) fn stop(&mut self) -> bool
-        ensures answer { λ r. ⌜ r ≡ stops (now (self .entry)) ⌝ }
-        ensures after { λ _. ⌜ now (self .exit) ≡ Idle ⌝ }
+        ensures answer { result ≡ stops self.old }
+        ensures after { self.new ≡ Idle }
     {
         let (next, reply) = self.respond(Event::Stop);
         *self = next;
@@ -156,8 +156,8 @@ impl Appointment {
 
     // Answers the point of an appointment that is due, and ends it.
     pub(crate) fn claim(&mut self) -> Option<u64>
-        ensures answer { λ r. ⌜ r ≡ claims (now (self .entry)) ⌝ }
-        ensures after { λ _. ⌜ now (self .exit) ≡ after-claim (now (self .entry)) ⌝ }
+        ensures answer { result ≡ claims self.old }
+        ensures after { self.new ≡ after_claim self.old }
     {
         let (next, reply) = self.respond(Event::Claim);
         *self = next;

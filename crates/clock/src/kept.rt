@@ -2,11 +2,11 @@
 //
 // The type of a layer cannot say how wide the alarm below is, so the width comes with each call, and an appointment that
 // would not fit it counts as none. No alarm keeps such a one: what is kept comes from calls at the same width.
-ghost use mathlib.Core.Path.{_≡_};
-ghost use Prim.Native.Nat.{_^_, _<_, _≤_};
-ghost use Rattle·clock·specs.Appointment.{Sound, held, left-in, after-take, setting, told, left-by, stops, claims, after-claim};
-ghost use Rattle·clock·specs.Kept.{within};
-ghost use Rattle·clock·specs.declared.appointment.Appointment.the-variants.{Idle};
+ghost use Rattle.std.specs.Prelude.{◌≡◌, ◌^◌, ◌<◌, ◌≤◌};
+ghost use Rattle.clock.specs.Appointment.{Sound, held, left_in, after_take, setting, told, left_by, stops, claims, after_claim};
+ghost use Rattle.clock.specs.Kept.{within};
+ghost use Rattle.clock.specs.declared.appointment.Appointment.TheVariants.{Idle};
+
 use crate::appointment::Appointment;
 use crate::width::Width;
 use fault::Fault;
@@ -14,12 +14,12 @@ use fault::Fault;
 #[derive(Drop)]
 pub struct Kept {
     appointment: Appointment,
-    ghost some: { 1 ≤ left-in appointment },
+    ghost some: { 1 ≤ left_in appointment },
 }
 
 impl Kept {
     pub fn new() -> Kept
-        ensures { λ r. ⌜ r .appointment ≡ Idle ⌝ }
+        ensures { result.appointment ≡ Idle }
     {
         Kept {
             appointment: Appointment::Idle,
@@ -28,9 +28,9 @@ impl Kept {
 
     // The appointment of a clock of this width.
     pub fn at(&self, width: Width) -> Appointment
-        ensures is { λ r. ⌜ r ≡ within (width .bits) (now (self .entry) .appointment) ⌝ }
-        ensures sound { λ r. ⌜ Sound (width .bits) r ⌝ }
-        ensures bound { λ r. ⌜ held r < 2 ^ 48 ⌝ }
+        ensures is { result ≡ within width.bits self.now.appointment }
+        ensures sound { Sound width.bits result }
+        ensures bound { held result < 2 ^ 48 }
     {
         let turn = width.turn();
         match self.appointment {
@@ -41,7 +41,7 @@ impl Kept {
     }
 
     pub fn take(&mut self, width: Width, from: u64, gained: u64)
-        ensures { λ _. ⌜ within (width .bits) (now (self .exit) .appointment) ≡ after-take (width .bits) from gained (within (width .bits) (now (self .entry) .appointment)) ⌝ }
+        ensures { within width.bits self.new.appointment ≡ after_take width.bits from gained (within width.bits self.old.appointment) }
     {
         let mut appointment = self.at(width);
         appointment.take(width, from, gained);
@@ -55,8 +55,8 @@ impl Kept {
         reference: u64,
         delay: u64,
     ) -> Result<(), Fault>
-        ensures answer { λ r. ⌜ r ≡ told (setting (width .bits) reading reference delay (within (width .bits) (now (self .entry) .appointment))) ⌝ }
-        ensures after { λ _. ⌜ within (width .bits) (now (self .exit) .appointment) ≡ left-by (setting (width .bits) reading reference delay (within (width .bits) (now (self .entry) .appointment))) (within (width .bits) (now (self .entry) .appointment)) ⌝ }
+        ensures answer { result ≡ told (setting width.bits reading reference delay (within width.bits self.old.appointment)) }
+        ensures after { within width.bits self.new.appointment ≡ left_by (setting width.bits reading reference delay (within width.bits self.old.appointment)) (within width.bits self.old.appointment) }
     {
         let mut appointment = self.at(width);
         let answer = appointment.set(width, reading, reference, delay);
@@ -65,8 +65,8 @@ impl Kept {
     }
 
     pub fn stop(&mut self, width: Width) -> bool
-        ensures answer { λ r. ⌜ r ≡ stops (within (width .bits) (now (self .entry) .appointment)) ⌝ }
-        ensures after { λ _. ⌜ within (width .bits) (now (self .exit) .appointment) ≡ Idle ⌝ }
+        ensures answer { result ≡ stops (within width.bits self.old.appointment) }
+        ensures after { within width.bits self.new.appointment ≡ Idle }
     {
         let mut appointment = self.at(width);
         let answer = appointment.stop();
@@ -75,8 +75,8 @@ impl Kept {
     }
 
     pub fn claim(&mut self, width: Width) -> Option<u64>
-        ensures answer { λ r. ⌜ r ≡ claims (within (width .bits) (now (self .entry) .appointment)) ⌝ }
-        ensures after { λ _. ⌜ within (width .bits) (now (self .exit) .appointment) ≡ after-claim (within (width .bits) (now (self .entry) .appointment)) ⌝ }
+        ensures answer { result ≡ claims (within width.bits self.old.appointment) }
+        ensures after { within width.bits self.new.appointment ≡ after_claim (within width.bits self.old.appointment) }
     {
         let mut appointment = self.at(width);
         let answer = appointment.claim();

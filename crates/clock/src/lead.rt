@@ -2,19 +2,18 @@
 //
 // The lead tells which of two readings is the later one only while they lie less than half a turn apart. So no deadline is
 // judged by it: an appointment counts the ticks that are left.
-ghost use mathlib.Core.Path.{_≡_};
-ghost use Prim.Native.Nat.{_+_, _^_, _<_, _≤_};
-ghost use Rattle·clock·specs.Lead.{lead-at, lead-of, turned, Serial};
+ghost use Rattle.std.specs.Prelude.{◌≡◌, ◌+◌, ◌^◌, ◌<◌, ◌≤◌};
+ghost use Rattle.clock.specs.Lead.{lead_at, lead_of, turned, Serial};
+
 use crate::width::Width;
-use fault::Cause;
-use fault::Fault;
+use fault::{Cause, Fault};
 
 // The lead of `a` over `b`, readings of `width` bits, 2 to 48: positive where `a` is ahead, negative where `b` is.
 // The other way round it has the other sign, and it is refused for the same reason.
 pub fn lead(width: u32, a: u64, b: u64) -> Result<i64, Fault>
-    ensures answer { λ r. ⌜ r ≡ lead-of width a b ⌝ }
-    ensures reverse { λ r. ⌜ turned r ≡ lead-of width b a ⌝ }
-    ensures serial { λ r. ⌜ Serial width a b r ⌝ }
+    ensures answer { result ≡ lead_of width a b }
+    ensures reverse { turned result ≡ lead_of width b a }
+    ensures serial { Serial width a b result }
 {
     if width < 2 || width > 48 {
         return Err(Fault::in_lead(Cause::BadSetting));
@@ -30,8 +29,8 @@ pub fn lead(width: u32, a: u64, b: u64) -> Result<i64, Fault>
 
 // The lead at a distance up of less than a turn: past half a turn the way down is the shorter one.
 fn signed(half: u64, distance: u64) -> Result<i64, Fault>
-    requires { ⌜ half ≤ 2 ^ 47 ⌝ ∗ ⌜ distance < half + half ⌝ }
-    ensures { λ r. ⌜ r ≡ lead-at half distance ⌝ }
+    requires { (half ≤ 2 ^ 47) × (distance < half + half) }
+    ensures { result ≡ lead_at half distance }
 {
     if distance < half {
         Ok(distance as i64)

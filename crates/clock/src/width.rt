@@ -1,7 +1,7 @@
 // The width of a clock, and sums and differences of its readings, which wrap.
-ghost use mathlib.Core.Path.{_≡_};
-ghost use Prim.Native.Nat.{_%_, _^_, _≤_};
-ghost use Rattle·clock·specs.Wrap.{plus, minus};
+ghost use Rattle.std.specs.Prelude.{◌≡◌, ◌%◌, ◌^◌, ◌≤◌};
+ghost use Rattle.clock.specs.Wrap.{plus, minus};
+
 use crate::alarm::Clock;
 
 // No reading has more than 48 bits.
@@ -13,7 +13,7 @@ pub struct Width {
 
 impl Width {
     pub fn of<C: Clock>(clock: &C) -> Width
-        ensures { λ r. ⌜ r .bits ≡ C·Clock .meaning (now (clock .entry)) .width ⌝ }
+        ensures { result.bits ≡ (C.Clock.meaning clock.now).width }
     {
         Width {
             bits: clock.width(),
@@ -22,28 +22,28 @@ impl Width {
 
     // 2^bits, one turn of a counter.
     pub fn turn(self) -> u64
-        ensures { λ r. ⌜ r ≡ 2 ^ self .bits ⌝ }
+        ensures { result ≡ 2 ^ self.bits }
     {
         1 << self.bits
     }
 
     // A number modulo a turn.
     fn low_bits(self, n: u64) -> u64
-        ensures { λ r. ⌜ r ≡ n % 2 ^ self .bits ⌝ }
+        ensures { result ≡ n % 2 ^ self.bits }
     {
         n % self.turn()
     }
 
     // (a + b) modulo a turn. It does no harm that the sum wraps at 2^64, which is a number of whole turns.
     pub fn sum(self, a: u64, b: u64) -> u64
-        ensures { λ r. ⌜ r ≡ plus (self .bits) a b ⌝ }
+        ensures { result ≡ plus self.bits a b }
     {
         self.low_bits(a.wrapping_add(b))
     }
 
     // (a - b) modulo a turn, for b up to a turn.
     pub fn difference(self, a: u64, b: u64) -> u64
-        ensures { λ r. ⌜ r ≡ minus (self .bits) a b ⌝ }
+        ensures { result ≡ minus self.bits a b }
     {
         self.sum(a, self.turn().saturating_sub(b))
     }

@@ -1,16 +1,12 @@
 -- The down-counter: it counts from its reload down to 0 and starts again at the reload; its sample is the raw count.
 -- Assumes nothing.
-use mathlib.Core.Bool.{_&&_, cond}
-use Prim.Native.Nat.{ℕ, _+_, _-_, _%_, _^_}
-use lib.Dec.{ltb, leb}
-use Rattle·std.specs.declared.result.Result.{Result}
-use Rattle·std.specs.declared.result.Result.the-variants.{Ok, Err}
-use Rattle·fault.specs.declared.Fault.{Fault}
-use Rattle·fault.specs.Table.{stray-sample, bad-device}
-use Rattle·clock.specs.Meaning.{Meaning, total}
-use Rattle·clock.specs.declared.appointment.Appointment.{Appointment}
-use Rattle·clock.specs.declared.appointment.Appointment.the-variants.{Idle}
-use Rattle·down·specs.declared.down.Count.{Count}
+use Rattle.std.specs.Prelude.{ℕ, ◌+◌, ◌-◌, ◌%◌, ◌^◌, cond, ◌&&◌, Ok, Err, Result, nat_le, nat_lt}
+use Rattle.fault.specs.declared.Fault.{Fault}
+use Rattle.fault.specs.Table.{stray_sample, bad_device}
+use Rattle.clock.specs.Meaning.{Meaning, total}
+use Rattle.clock.specs.declared.appointment.Appointment.{Appointment}
+use Rattle.clock.specs.declared.appointment.Appointment.TheVariants.{Idle}
+use Rattle.down.specs.declared.down.Count.{Count}
 
 -- (a - s) mod n, for any s
 abbrev pub back : ℕ → ℕ → ℕ → ℕ
@@ -18,11 +14,11 @@ back n a s = (a + (n - s % n)) % n
 
 -- the ticks in which the count falls from one to another: past 0 it starts again at the reload
 abbrev pub fallen : ℕ → ℕ → ℕ → ℕ
-fallen reload from to = cond (ltb from to) (from + (reload + 1) - to) (from - to)
+fallen reload from to = cond (nat_lt from to) (from + (reload + 1) - to) (from - to)
 
 -- last is the count of the last accepted sample; a round of the counter is one tick longer than its reload
-abbrev pub down-meaning : ℕ → ℕ → ℕ → ℕ → Meaning Count
-down-meaning reload last reading tag = record {
+abbrev pub down_meaning : ℕ → ℕ → ℕ → ℕ → Meaning Count
+down_meaning reload last reading tag = record {
   width = 32;
   reading = reading;
   reach = reload + 1;
@@ -32,8 +28,8 @@ down-meaning reload last reading tag = record {
 }
 
 -- a counter that is made: the reload is judged first, then the sample; its reading starts at 0
-abbrev pub down-made : ℕ → ℕ → ℕ → Result (Meaning Count × Appointment) Fault
-down-made reload first tag =
-    cond (leb 1 reload && ltb reload (2 ^ 24))
-    (cond (leb first reload) (Ok (down-meaning reload first 0 tag, Idle)) (Err (stray-sample tag)))
-    (Err (bad-device tag))
+abbrev pub down_made : ℕ → ℕ → ℕ → Result (Meaning Count × Appointment) Fault
+down_made reload first tag =
+    cond (nat_le 1 reload && nat_lt reload (2 ^ 24))
+    (cond (nat_le first reload) (Ok (down_meaning reload first 0 tag, Idle)) (Err (stray_sample tag)))
+    (Err (bad_device tag))

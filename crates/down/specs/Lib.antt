@@ -1,2 +1,3 @@
 -- The down-counter: what it means as a clock, and what its making answers.
 pub mod Down
+pub mod DownCounters

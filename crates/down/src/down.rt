@@ -1,18 +1,18 @@
 // A counter that counts from its reload down to 0 and starts again at the reload.
-ghost use mathlib.Core.Path.{_≡_};
-ghost use Prim.Native.Nat.{_^_, _<_, _≤_};
-ghost use Rattle·clock.specs.Calls.{Accepted};
-ghost use Rattle·down·specs.Down.{down-meaning, down-made, fallen};
-ghost use Rattle·clock.specs.Hold.{wait-for};
-ghost use Rattle·clock.specs.Kept.{within};
-ghost use Rattle·clock.specs.Making.{seen};
-use clock::alarm::Alarm;
-use clock::alarm::Clock;
+ghost use Rattle.std.specs.Prelude.{◌≡◌, ◌^◌, ◌<◌, ◌≤◌};
+ghost use Rattle.clock.specs.Calls.{Accepted};
+ghost use Rattle.down.specs.Down.{down_meaning, down_made, fallen};
+ghost use Rattle.clock.specs.Hold.{wait_for};
+ghost use Rattle.clock.specs.Kept.{within};
+ghost use Rattle.clock.specs.Making.{seen};
+ghost use Rattle.down.specs.DownCounters.{down_lawful};
+ghost use Rattle.std.proofs.Common.{rules, arith};
+
+use clock::alarm::{Alarm, Clock};
 use clock::appointment::Appointment;
 use clock::kept::Kept;
 use clock::width::Width;
-use fault::Cause;
-use fault::Fault;
+use fault::{Cause, Fault};
 
 // A raw count of the counter's register.
 #[derive(Clone, Copy, PartialEq, Eq, Debug)]
@@ -38,7 +38,7 @@ pub struct DownCounter {
 impl DownCounter {
     // Reload from 1 to 2^24 - 1, and a first sample that a counter with that reload can show.
     pub fn new(reload: u32, first: Count, tag: u8) -> Result<DownCounter, Fault>
-        ensures { λ r. ⌜ seen (λ c. (down-meaning (c .reload) (c .last) (c .reading) (c .tag), within 32 (c .kept .appointment))) r ≡ down-made reload (first .0) tag ⌝ }
+        ensures { seen (λ c. (down_meaning c.reload c.last c.reading c.tag, within 32 c.kept.appointment)) result ≡ down_made reload first.0 tag }
     {
         if reload < 1 || reload >= 1 << 24 {
             return Err(Fault::in_device(Cause::BadSetting, tag));
@@ -58,8 +58,8 @@ impl DownCounter {
     // The true ticks from the last accepted sample to a count. The count 0 takes a tick too, so a round has one more than the
     // reload.
     fn passed(&self, count: u32) -> u32
-        requires { ⌜ count ≤ now self .reload ⌝ }
-        ensures { λ r. ⌜ r ≡ fallen (now (self .entry) .reload) (now (self .entry) .last) count ⌝ }
+        requires { count ≤ self.now.reload }
+        ensures { result ≡ fallen self.now.reload self.now.last count }
     {
         if self.last < count {
             self.last + (self.reload + 1) - count
@@ -70,8 +70,8 @@ impl DownCounter {
 
     // Moves on to a count that the counter can show, this many ticks after the last.
     fn accept(&mut self, sample: Count, gained: u64)
-        requires { ⌜ sample .0 ≤ now self .reload ⌝ ∗ ⌜ gained ≡ fallen (now self .reload) (now self .last) (sample .0) ⌝ }
-        ensures { λ _. ⌜ Accepted (down-meaning (now (self .entry) .reload) (now (self .entry) .last) (now (self .entry) .reading) (now (self .entry) .tag)) (within 32 (now (self .entry) .kept .appointment)) sample gained (down-meaning (now (self .exit) .reload) (now (self .exit) .last) (now (self .exit) .reading) (now (self .exit) .tag)) (within 32 (now (self .exit) .kept .appointment)) ⌝ }
+        requires { (sample.0 ≤ self.old.reload) × (gained ≡ fallen self.old.reload self.old.last sample.0) }
+        ensures { Accepted (down_meaning self.old.reload self.old.last self.old.reading self.old.tag) (within 32 self.old.kept.appointment) sample gained (down_meaning self.new.reload self.new.last self.new.reading self.new.tag) (within 32 self.new.kept.appointment) }
     {
         self.kept.take(WIDTH, self.reading, gained);
         self.reading = WIDTH.sum(self.reading, gained);
@@ -80,16 +80,18 @@ impl DownCounter {
 
     // A tick of this clock is a true tick.
     fn wait(&self, left: u64) -> u64
-        ensures { λ r. ⌜ r ≡ wait-for (down-meaning (now (self .entry) .reload) (now (self .entry) .last) (now (self .entry) .reading) (now (self .entry) .tag)) left ⌝ }
+        ensures { result ≡ wait_for (down_meaning self.now.reload self.now.last self.now.reading self.now.tag) left }
     {
         left.min(u64::from(self.reload))
     }
 }
 
-pub impl Clock for DownCounter as DownClock {
+impl Clock for DownCounter {
     type Sample = Count;
 
-    ghost meaning = { λ c. down-meaning (c .reload) (c .last) (c .reading) (c .tag) };
+    ghost meaning = { λ c. down_meaning c.reload c.last c.reading c.tag };
+
+    ghost lawful = { λ x. down_lawful x.reload x.last x.reading x.tag x.low x.high x.fits };
 
     fn width(&self) -> u32 {
         WIDTH.bits
@@ -104,8 +106,10 @@ pub impl Clock for DownCounter as DownClock {
     }
 }
 
-pub impl Alarm for DownCounter as DownAlarm {
-    ghost appointment = { λ c. within 32 (c .kept .appointment) };
+impl Alarm for DownCounter {
+    ghost appointment = { λ c. within 32 c.kept.appointment };
+
+    ghost sound = { first_of (Prim.search rules, Prim.grind (arith, Self.row.coded.inj)) };
 
     fn take(&mut self, sample: Count) -> Result<u64, Fault> {
         if sample.0 > self.reload {

@@ -1,26 +1,23 @@
 -- An errand that is put off: its ticket is settled, and another errand is set up in its slot, which is to make a mark.
 -- Assumes nothing.
-use mathlib.Core.Path.{_≡_}
-use Prim.Native.Nat.{ℕ}
-use Rattle·std.specs.declared.result.Result.{Result}
-use Rattle·std.specs.declared.result.Result.the-variants.{Ok, Err}
-use Rattle·fault.specs.declared.Fault.{Fault}
-use Rattle·jobs.specs.declared.Action.the-variants.{Mark}
-use Rattle·jobs.specs.declared.Outcome.{Outcome}
-use Rattle·jobs.specs.declared.Slot.the-variants.{Free}
-use Rattle·logger.specs.State.{Log, with-slot}
-use Rattle·logger.specs.Calls.{settle-answer, Erranded}
-use Rattle·logger.specs.declared.ticket.Ticket.{Ticket}
+use Rattle.std.specs.Prelude.{◌≡◌, ℕ, Ok, Err, Result}
+use Rattle.fault.specs.declared.Fault.{Fault}
+use Rattle.jobs.specs.declared.Action.TheVariants.{Mark}
+use Rattle.jobs.specs.declared.Outcome.{Outcome}
+use Rattle.jobs.specs.declared.Slot.TheVariants.{Free}
+use Rattle.logger.specs.State.{Log, with_slot}
+use Rattle.logger.specs.Calls.{settle_answer, Erranded}
+use Rattle.logger.specs.declared.ticket.Ticket.{Ticket}
 
--- l is the log before the call, l′ after it; the settle comes first, and a refused one ends the call
-module _ {X : Type 0} (l : Log X) (ticket : Ticket) (delay : ℕ) (r : Result Ticket Fault) (l′ : Log X) where
+-- l is the log before the call, l' after it; the settle comes first, and a refused one ends the call
+module _ {X : Type 0} (l : Log X) (ticket : Ticket) (delay : ℕ) (r : Result Ticket Fault) (l' : Log X) where
   pub record Refused (fault : Fault) : Type 0 where
     pub answer : r ≡ Err fault
-    pub after : l′ ≡ l
+    pub after : l' ≡ l
 
   abbrev pub Resumed : Result Outcome Fault → Type 0
-  Resumed (Ok outcome) = Erranded (with-slot l (ticket .slot) Free) (ticket .slot) (l .moment) delay Mark r l′
+  Resumed (Ok outcome) = Erranded (with_slot l ticket.slot Free) ticket.slot l.moment delay Mark r l'
   Resumed (Err fault) = Refused fault
 
   abbrev pub PutOff : Type 0
-  PutOff = Resumed (settle-answer l ticket)
+  PutOff = Resumed (settle_answer l ticket)

@@ -1,8 +1,8 @@
 // A desk that a ticket is kept on, and settled from.
-ghost use mathlib.Core.Path.{_≡_};
-ghost use mathlib.Core.Bool.{true, false};
-ghost use Rattle·logger.specs.State.{view};
-ghost use Rattle·errands·specs.Desk.{holds, SettledFrom};
+ghost use Rattle.std.specs.Prelude.{◌≡◌, true, false};
+ghost use Rattle.logger.specs.State.{view};
+ghost use Rattle.errands.specs.Desk.{holds, SettledFrom};
+
 use clock::alarm::Alarm;
 use fault::Fault;
 use jobs::Outcome;
@@ -18,7 +18,7 @@ pub(crate) enum Desk {
 // Only an empty desk is let go.
 impl Drop for Desk {
     fn drop(self)
-        requires { ⌜ holds self ≡ false ⌝ }
+        requires { holds self ≡ false }
     {
         match self {
             Desk::Empty => {}
@@ -29,8 +29,8 @@ impl Drop for Desk {
 
 impl Desk {
     fn into_ticket(self) -> Ticket
-        requires { ⌜ holds self ≡ true ⌝ }
-        ensures { λ r. ⌜ self ≡ Desk.Holds r ⌝ }
+        requires { holds self ≡ true }
+        ensures { self ≡ Desk.Holds result }
     {
         match self {
             Desk::Holds(ticket) => ticket,
@@ -44,9 +44,9 @@ pub(crate) fn settle_from<A: Alarm>(
     logger: &mut Logger<A>,
     desk: &mut Desk,
 ) -> Result<Outcome, Fault>
-    requires { ⌜ holds (now desk) ≡ true ⌝ }
-    ensures settled { λ r. ⌜ SettledFrom (view (A·Clock .meaning) (now (logger .entry))) (now (desk .entry)) r (view (A·Clock .meaning) (now (logger .exit))) ⌝ }
-    ensures empty { λ _. ⌜ now (desk .exit) ≡ Desk.Empty ⌝ }
+    requires { holds desk.old ≡ true }
+    ensures settled { SettledFrom (view A.Clock.meaning logger.old) desk.old result (view A.Clock.meaning logger.new) }
+    ensures empty { desk.new ≡ Desk.Empty }
 {
     let ticket = mem::replace(desk, Desk::Empty).into_ticket();
     logger.settle(ticket)

@@ -1,8 +1,8 @@
 // Tickets in right use: a program keeps one on a desk, settles it from there, and sets up another errand.
-ghost use Rattle·logger.specs.State.{view};
-ghost use Rattle·errands·specs.Errands.{PutOff};
-use crate::desk::Desk;
-use crate::desk::settle_from;
+ghost use Rattle.logger.specs.State.{view};
+ghost use Rattle.errands.specs.Errands.{PutOff};
+
+use crate::desk::{Desk, settle_from};
 use clock::alarm::Alarm;
 use fault::Fault;
 use jobs::Action;
@@ -17,7 +17,7 @@ pub fn put_off<A: Alarm>(
     ticket: Ticket,
     delay: u64,
 ) -> Result<Ticket, Fault>
-    ensures { λ r. ⌜ PutOff (view (A·Clock .meaning) (now (logger .entry))) ticket delay r (view (A·Clock .meaning) (now (logger .exit))) ⌝ }
+    ensures { PutOff (view A.Clock.meaning logger.old) ticket delay result (view A.Clock.meaning logger.new) }
 {
     let slot = ticket.slot();
     let mut desk = Desk::Holds(ticket);

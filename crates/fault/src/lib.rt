@@ -1,8 +1,8 @@
 // What a refused call answers: why it was refused, in which part, and at which place.
-ghost use mathlib.Core.Path.{_≡_};
-ghost use Rattle·std.specs.declared.option.Option.the-variants.{Some};
-ghost use Rattle·fault·specs.Table.{number-of, in-device, in-alarm, in-logger, in-slot, in-script, in-book, in-lead};
-ghost use Rattle·fault·specs.Text.{part-text, fault-text};
+ghost use Rattle.std.specs.Prelude.{◌≡◌, Some};
+ghost use Rattle.fault.specs.Table.{number_of, in_device, in_alarm, in_logger, in_slot, in_script, in_book, in_lead};
+ghost use Rattle.fault.specs.Text.{part_text, fault_text};
+
 use std::fmt;
 
 // Why a call was refused. The numbers are part of the interface: `number` answers them.
@@ -71,7 +71,7 @@ pub struct Fault {
 impl Cause {
     // The number by which people and logs speak of the cause.
     pub fn number(self) -> u8
-        ensures { λ r. ⌜ r ≡ number-of self ⌝ }
+        ensures { result ≡ number_of self }
     {
         self as u8
     }
@@ -79,56 +79,56 @@ impl Cause {
 
 impl Fault {
     fn at(cause: Cause, part: Part, place: Place) -> Fault
-        ensures { λ r. ⌜ r ≡ record { cause = cause; part = part; place = place } ⌝ }
+        ensures { result ≡ record { cause = cause; part = part; place = place } }
     {
         Fault { cause, part, place }
     }
 
     pub fn in_device(cause: Cause, tag: u8) -> Fault
-        ensures { λ r. ⌜ r ≡ in-device cause tag ⌝ }
+        ensures { result ≡ in_device cause tag }
     {
         Fault::at(cause, Part::Device, Place::Tag(tag))
     }
 
     pub fn in_alarm(cause: Cause) -> Fault
-        ensures { λ r. ⌜ r ≡ in-alarm cause ⌝ }
+        ensures { result ≡ in_alarm cause }
     {
         Fault::at(cause, Part::Alarm, Place::Nought)
     }
 
     pub fn in_logger(cause: Cause) -> Fault
-        ensures { λ r. ⌜ r ≡ in-logger cause ⌝ }
+        ensures { result ≡ in_logger cause }
     {
         Fault::at(cause, Part::Logger, Place::Nought)
     }
 
     pub fn in_slot(cause: Cause, slot: usize) -> Fault
-        ensures { λ r. ⌜ r ≡ in-slot cause slot ⌝ }
+        ensures { result ≡ in_slot cause slot }
     {
         Fault::at(cause, Part::Logger, Place::Slot(slot))
     }
 
     pub fn in_script(cause: Cause, line: usize, byte: usize) -> Fault
-        ensures { λ r. ⌜ r ≡ in-script cause line byte ⌝ }
+        ensures { result ≡ in_script cause line byte }
     {
         Fault::at(cause, Part::Script, Place::Line { line, byte })
     }
 
     pub fn in_book(cause: Cause, length: usize) -> Fault
-        ensures { λ r. ⌜ r ≡ in-book cause length ⌝ }
+        ensures { result ≡ in_book cause length }
     {
         Fault::at(cause, Part::Book, Place::Length(length))
     }
 
     pub fn in_lead(cause: Cause) -> Fault
-        ensures { λ r. ⌜ r ≡ in-lead cause ⌝ }
+        ensures { result ≡ in_lead cause }
     {
         Fault::at(cause, Part::Lead, Place::Nought)
     }
 }
 
-pub impl fmt::Display for Part as PartDisplay {
-    ghost shown = { λ p. Some (part-text p) };
+impl fmt::Display for Part {
+    ghost output = { λ p. Some (part_text p) };
 
     fn fmt<W: fmt::Write>(&self, f: &mut fmt::Formatter<W>) -> fmt::Result {
         let word = match *self {
@@ -144,8 +144,8 @@ pub impl fmt::Display for Part as PartDisplay {
 }
 
 // `refused NUMBER PART PLACE`, and for a script `refused NUMBER line L byte B`.
-pub impl fmt::Display for Fault as FaultDisplay {
-    ghost shown = { λ x. Some (fault-text x) };
+impl fmt::Display for Fault {
+    ghost output = { λ x. Some (fault_text x) };
 
     fn fmt<W: fmt::Write>(&self, f: &mut fmt::Formatter<W>) -> fmt::Result {
         let number = self.cause.number();

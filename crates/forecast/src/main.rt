@@ -1,12 +1,9 @@
 // Prints when the jobs of a script on standard input fire: its first firings from moment 0, or why it is refused.
-ghost use Prim.Native.Nat.{_≤_};
-ghost use lib.ListN.{length};
-ghost use Rattle·std.specs.Vec.{made};
-use fault::FaultDisplay;
+ghost use Rattle.std.specs.Prelude.{◌≤◌, length, IfOk};
+
 use listing::listing;
 use std::io;
-use std::io::Read;
-use std::io::Write;
+use std::io::{Read, Write};
 
 // One byte more than a script may have shows that it is too long, however long it is.
 const ENOUGH: usize = 4097;
@@ -16,7 +13,7 @@ const PAGE: usize = 1024;
 
 // Reads until the row is full or the input ends; answers how many bytes.
 fn fill<R: Read>(input: &mut R, row: &mut [u8]) -> io::Result<usize>
-    ensures { λ r. ⌜ made r (λ n. n ≤ length (now (row .entry))) ⌝ }
+    ensures { IfOk result (λ n. n ≤ length row.old) }
 {
     let mut size = 0;
     for _ in 0..row.len() {
@@ -29,12 +26,12 @@ fn fill<R: Read>(input: &mut R, row: &mut [u8]) -> io::Result<usize>
     Ok(size)
 }
 
-fn main(rt: LibcRuntime) -> io::Result<()> {
+fn main(rt: HostRuntime) -> io::Result<()> {
     let mut row = [0; ENOUGH];
     let size = fill(&mut rt.stdin(), &mut row)?;
     let mut page = [0; PAGE];
     match listing(&row[0..size], &mut page) {
         Ok(length) => rt.stdout().write_all(&page[0..length]),
-        Err(fault) => println!(rt, "{fault}"),
+        Err(fault) => println!(rt; "{fault}"),
     }
 }

@@ -1,51 +1,44 @@
 -- The forecast of a script: its first firings in order, what a call writes of them, and what they are among all firings.
 -- Assumes nothing.
-use mathlib.Core.Path.{_≡_}
-use mathlib.Core.Bool.{Bool, true}
-use mathlib.Core.List.{List, [], _∷_, _++_, map}
-use mathlib.Core.Logic.{_⊎_}
-use Prim.Native.Nat.{ℕ, min, _+_, _*_, _<_}
-use lib.ListN.{length, drop, replicate}
-use Rattle·std.specs.declared.result.Result.{Result}
-use Rattle·std.specs.declared.result.Result.the-variants.{Ok, Err}
-use Rattle·std.specs.shelf.Lists.{All}
-use Rattle·fault.specs.declared.Fault.{Fault}
-use Rattle·queue.specs.Due.{Earlier}
-use Rattle·queue.specs.Order.{in-order}
-use Rattle·queue.specs.declared.dues.Due.{Due}
-use Rattle·jobs.specs.declared.Kind.{Kind}
-use Rattle·jobs.specs.declared.Kind.the-variants.{Once, Every, Burst}
-use Rattle·line.specs.declared.line.Line.{Line}
-use Rattle·line.specs.Line.{_>>=_}
-use Rattle·forecasting·specs.Pending.{pending, pending-order, firings, spacing}
-use Rattle·script.specs.Script.{script-of}
+use Rattle.std.specs.Prelude.{◌≡◌, ℕ, ◌+◌, ◌*◌, ◌<◌, min, Bool, true, ◌⊎◌, List, [], ◌∷◌, ◌++◌, map, length, drop, replicate, Ok, Err, Result}
+use Rattle.std.specs.List.{AllByRecursion as All}
+use Rattle.fault.specs.declared.Fault.{Fault}
+use Rattle.queue.specs.Due.{Earlier}
+use Rattle.queue.specs.Order.{in_order}
+use Rattle.queue.specs.declared.dues.Due.{Due}
+use Rattle.jobs.specs.declared.Kind.{Kind}
+use Rattle.jobs.specs.declared.Kind.TheVariants.{Once, Every, Burst}
+use Rattle.line.specs.declared.line.Line.{Line}
+use Rattle.line.specs.Line.{◌>>=◌}
+use Rattle.forecasting.specs.Pending.{pending, pending_order, firings, spacing}
+use Rattle.script.specs.Script.{script_of}
 
 -- the slots of an empty logger
-abbrev pub all-free : List Bool
-all-free = replicate 32 true
+abbrev pub all_free : List Bool
+all_free = replicate 32 true
 
 -- the first n firings of lines that are loaded at this moment
-abbrev pub first-firings : ℕ → ℕ → List Line → List Due
-first-firings n start ls = firings n (in-order pending-order (map (pending start) ls))
+abbrev pub first_firings : ℕ → ℕ → List Line → List Due
+first_firings n start ls = firings n (in_order pending_order (map (pending start) ls))
 
-abbrev pub forecast-of : ℕ → ℕ → List ℕ → Result (List Due) Fault
-forecast-of n start text = do
-  ls ← script-of all-free text
-  Ok (first-firings n start ls)
+abbrev pub forecast_of : ℕ → ℕ → List ℕ → Result (List Due) Fault
+forecast_of n start text = do
+  ls ← script_of all_free text
+  Ok (first_firings n start ls)
 
 -- how many firings two rows have place for: no more than the shorter, and 256
 abbrev pub places : {A B : Type 0} → List A → List B → ℕ
 places xs ys = min (min (length xs) (length ys)) 256
 
-abbrev pub how-many : Result (List Due) Fault → Result ℕ Fault
-how-many r = do
+abbrev pub how_many : Result (List Due) Fault → Result ℕ Fault
+how_many r = do
   ds ← r
   Ok (length ds)
 
 -- a row after a forecast: what was foretold, and then what stood there before
-abbrev pub row-after : (Due → ℕ) → Result (List Due) Fault → List ℕ → List ℕ
-row-after f (Ok ds) row = map f ds ++ drop (length ds) row
-row-after f (Err e) row = row
+abbrev pub row_after : (Due → ℕ) → Result (List Due) Fault → List ℕ → List ℕ
+row_after f (Ok ds) row = map f ds ++ drop (length ds) row
+row_after f (Err e) row = row
 
 -- whether a job of this kind has a kth firing, from 0
 abbrev pub Counts : Kind → ℕ → Type 0
@@ -55,12 +48,12 @@ Counts (Burst count period) k = k < count
 
 -- x is a firing of a job of this kind in this slot, first due at this moment
 abbrev pub FiresAt : ℕ → ℕ → Kind → Due → Type 0
-FiresAt slot first kind x = (x .slot ≡ slot) × ((k : ℕ) × Counts kind k × (x .moment ≡ first + k * spacing kind))
+FiresAt slot first kind x = (x.slot ≡ slot) × ((k : ℕ) × Counts kind k × (x.moment ≡ first + k * spacing kind))
 
 -- x is a firing of one of the lines
 abbrev pub IsFiring : ℕ → List Line → Due → Type 0
 IsFiring start [] x = ⊥
-IsFiring start (l ∷ ls) x = FiresAt (l .slot) (start + l .delay) (l .job .kind) x ⊎ IsFiring start ls x
+IsFiring start (l ∷ ls) x = FiresAt l.slot (start + l.delay) l.job.kind x ⊎ IsFiring start ls x
 
 -- x stands in a list
 abbrev pub Among : Due → List Due → Type 0
@@ -84,4 +77,4 @@ pub record Foretells (n start : ℕ) (ls : List Line) (ds : List Due) : Type 0 w
 
 -- what a call of forecast keeps to
 abbrev pub ForecastLaw : ℕ → ℕ → List ℕ → Type 0
-ForecastLaw n start text = (ls : List Line) → script-of all-free text ≡ Ok ls → Foretells n start ls (first-firings n start ls)
+ForecastLaw n start text = (ls : List Line) → script_of all_free text ≡ Ok ls → Foretells n start ls (first_firings n start ls)

@@ -1,7 +1,7 @@
 // When the jobs of a script fire.
-ghost use mathlib.Core.Path.{_≡_};
-ghost use lib.ListN.{length};
-ghost use Rattle·forecasting·specs.Forecast.{forecast-of, places, how-many, row-after, ForecastLaw};
+ghost use Rattle.std.specs.Prelude.{◌≡◌, length};
+ghost use Rattle.forecasting.specs.Forecast.{forecast_of, places, how_many, row_after, ForecastLaw};
+
 use crate::plan::Plan;
 use fault::Fault;
 use script::read;
@@ -15,7 +15,7 @@ const MOST: usize = 256;
 
 // How many firings both rows have place for.
 fn room(moments: &[u64], slots: &[u8]) -> usize
-    ensures { λ r. ⌜ r ≡ places (now (moments .entry)) (now (slots .entry)) ⌝ }
+    ensures { result ≡ places moments.now slots.now }
 {
     moments.len().min(slots.len()).min(MOST)
 }
@@ -28,10 +28,10 @@ pub fn forecast(
     moments: &mut [u64],
     slots: &mut [u8],
 ) -> Result<usize, Fault>
-    ensures answer { λ r. ⌜ r ≡ how-many (forecast-of (places (now (moments .entry)) (now (slots .entry))) (start .ticks) (now (script .entry))) ⌝ }
-    ensures moments { λ _. ⌜ now (moments .exit) ≡ row-after (λ d. d .moment) (forecast-of (places (now (moments .entry)) (now (slots .entry))) (start .ticks) (now (script .entry))) (now (moments .entry)) ⌝ }
-    ensures slots { λ _. ⌜ now (slots .exit) ≡ row-after (λ d. d .slot) (forecast-of (places (now (moments .entry)) (now (slots .entry))) (start .ticks) (now (script .entry))) (now (slots .entry)) ⌝ }
-    ensures law { λ _. ⌜ ForecastLaw (places (now (moments .entry)) (now (slots .entry))) (start .ticks) (now (script .entry)) ⌝ }
+    ensures answer { result ≡ how_many (forecast_of (places moments.old slots.old) start.ticks script.now) }
+    ensures moments { moments.new ≡ row_after (λ d. d.moment) (forecast_of (places moments.old slots.old) start.ticks script.now) moments.old }
+    ensures slots { slots.new ≡ row_after (λ d. d.slot) (forecast_of (places moments.old slots.old) start.ticks script.now) slots.old }
+    ensures law { ForecastLaw (places moments.old slots.old) start.ticks script.now }
 {
     let loaded = read(script, &[true; 32])?;
     let mut plan = Plan::of(loaded.lines(), start.ticks());

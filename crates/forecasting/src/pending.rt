@@ -1,17 +1,14 @@
 // A job that waits for its next firing.
-ghost use mathlib.Core.Path.{_≡_};
-ghost use Prim.Native.Nat.{_+_, _^_, _<_};
-ghost use Rattle·std.specs.declared.option.Option.the-variants.{Some};
-ghost use Rattle·forecasting·specs.Pending.{pending, pending-orders, again, spacing};
-ghost use Rattle·queue.specs.Due.{due-compare};
+ghost use Rattle.std.specs.Prelude.{◌≡◌, ◌+◌, ◌^◌, ◌<◌, Some, refl};
+ghost use Rattle.forecasting.specs.Pending.{pending, pending_orders, again, spacing};
+ghost use Rattle.queue.specs.Due.{due_compare};
+ghost use Rattle.std.specs.Cmp.Rules.{comparing};
+ghost use Rattle.std.proofs.Common.{rules};
+ghost use Rattle.std.specs.Cmp.{partial_order_from_agreeing_total};
+
 use jobs::Kind;
-use jobs::KindEq;
-use jobs::KindPartialEq;
 use line::Line;
 use queue::Due;
-use queue::DueEq;
-use queue::DueOrd;
-use queue::DuePartialEq;
 use std::cmp::Ordering;
 
 #[derive(Clone, Copy, PartialEq, Eq)]
@@ -21,16 +18,24 @@ pub(crate) struct Pending {
 }
 
 // By the next firing: its moment, and the lower slot on a tie.
-pub(crate) impl Ord for Pending as PendingOrd {
-    ghost orders = { pending-orders };
+impl Ord for Pending {
+    ghost orders = { pending_orders };
+
+    ghost total = { Prim.search (comparing, rules) };
+
+    ghost matches_partial_cmp = { Prim.search (comparing, rules) };
+
+    ghost matches_eq = { Prim.search (comparing, rules) };
 
     fn cmp(&self, other: &Pending) -> Ordering {
         self.due.cmp(&other.due)
     }
 }
 
-pub(crate) impl PartialOrd<Pending> for Pending as PendingPartialOrd {
-    ghost compares = { λ x y r. r ≡ Some (due-compare (x .due) (y .due)) };
+impl PartialOrd for Pending {
+    ghost partial_cmp = { λ x y. Some (due_compare x.due y.due) };
+
+    ghost laws = { partial_order_from_agreeing_total (λ x y. due_compare x.due y.due) (Prim.search (comparing, rules)) (λ _ _. refl) (Prim.search (comparing, rules)) };
 
     fn partial_cmp(&self, other: &Pending) -> Option<Ordering> {
         Some(self.cmp(other))
@@ -40,8 +45,8 @@ pub(crate) impl PartialOrd<Pending> for Pending as PendingPartialOrd {
 impl Pending {
     // The job of a line that is loaded at `start`.
     pub(crate) fn of(line: Line, start: u64) -> Pending
-        requires { ⌜ start + line .delay < 2 ^ 64 ⌝ }
-        ensures { λ r. ⌜ r ≡ pending start line ⌝ }
+        requires { start + line.delay < 2 ^ 64 }
+        ensures { result ≡ pending start line }
     {
         Pending {
             due: Due {
@@ -54,8 +59,8 @@ impl Pending {
 
     // What still waits after its firing.
     pub(crate) fn again(self) -> Option<Pending>
-        requires { ⌜ self .due .moment + spacing (self .kind) < 2 ^ 64 ⌝ }
-        ensures { λ r. ⌜ r ≡ again (self .due) (self .kind) ⌝ }
+        requires { self.due.moment + spacing self.kind < 2 ^ 64 }
+        ensures { result ≡ again self.due self.kind }
     {
         match self.kind {
             Kind::Once => None,
@@ -69,8 +74,8 @@ impl Pending {
     }
 
     fn after(self, ticks: u64, kind: Kind) -> Pending
-        requires { ⌜ self .due .moment + ticks < 2 ^ 64 ⌝ }
-        ensures { λ r. ⌜ r ≡ record { due = record { moment = self .due .moment + ticks; slot = self .due .slot }; kind = kind } ⌝ }
+        requires { self.due.moment + ticks < 2 ^ 64 }
+        ensures { result ≡ record { due = record { moment = self.due.moment + ticks; slot = self.due.slot }; kind = kind } }
     {
         Pending {
             due: Due {

@@ -1,7 +1,6 @@
 // The jobs of a script, in the order of their next firings.
-ghost use mathlib.Core.Path.{_≡_};
-ghost use Prim.Native.Nat.{_≤_};
-ghost use lib.ListN.{length};
+ghost use Rattle.std.specs.Prelude.{◌≡◌, ◌≤◌, length};
+
 use crate::pending::Pending;
 use queue::Queue;
 
@@ -12,5 +11,5 @@ pub(crate) struct Plan {
     row: [Pending; 32],
     queue: Queue,
     ghost places: { length row ≡ 32 },
-    ghost within: { queue .count ≤ 32 },
+    ghost within: { queue.count ≤ 32 },
 }

@@ -1,8 +1,6 @@
 -- How many bytes words take up, each with the byte that ends it.
 -- Assumes nothing.
-use mathlib.Core.List.{List, [], _∷_}
-use Prim.Native.Nat.{ℕ, _+_}
-use lib.ListN.{length}
+use Rattle.std.specs.Prelude.{ℕ, ◌+◌, List, [], ◌∷◌, length}
 
 abbrev pub extent : List (List ℕ) → ℕ
 extent [] = 0

@@ -1,8 +1,8 @@
 // The words of one line of a script that are still to be judged.
-ghost use mathlib.Core.Path.{_≡_};
-ghost use Prim.Native.Nat.{_+_, _^_, _<_};
-ghost use Rattle·words.specs.Words.{remaining};
-ghost use Rattle·line·specs.Extent.{extent};
+ghost use Rattle.std.specs.Prelude.{◌≡◌, ◌+◌, ◌^◌, ◌<◌};
+ghost use Rattle.words.specs.Words.{remaining};
+ghost use Rattle.line.specs.Extent.{extent};
+
 use words::Words;
 
 mod calls;
@@ -15,6 +15,6 @@ pub(crate) struct Cursor<'a> {
     // where the next word begins, and where the line ends
     byte: usize,
     end: usize,
-    ghost within: { byte + extent (remaining (words .rest .now) (words .more)) ≡ end + 1 },
+    ghost within: { byte + extent (remaining words.rest.now words.more) ≡ end + 1 },
     ghost bounded: { end < 2 ^ 63 },
 }

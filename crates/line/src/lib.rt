@@ -1,9 +1,8 @@
 // One line of a script: its grammar, and what it is read as.
-ghost use mathlib.Core.Path.{_≡_};
-ghost use Prim.Native.Nat.{_+_, _≤_};
-ghost use lib.ListN.{length, drop};
-ghost use Rattle·words.specs.Cuts.{first-piece};
-ghost use Rattle·line·specs.Line.{line-at};
+ghost use Rattle.std.specs.Prelude.{◌≡◌, ◌+◌, ◌≤◌, length, drop};
+ghost use Rattle.words.specs.Cuts.{first_piece};
+ghost use Rattle.line.specs.Line.{line_at};
+
 use crate::cursor::Cursor;
 use fault::Fault;
 use words::piece;
@@ -22,7 +21,7 @@ pub fn line_at(
     start: usize,
     free: &[bool; 32],
 ) -> Result<(Line, usize), Fault>
-    ensures { λ r. ⌜ r ≡ line-at number start (now (free .entry)) (now (script .entry)) ⌝ }
+    ensures { result ≡ line_at number start free.now script.now }
 {
     let start = start.min(script.len());
     let text = text_at(script, start);
@@ -32,9 +31,9 @@ pub fn line_at(
 
 // The bytes of that line.
 fn text_at(script: &[u8], start: usize) -> &[u8]
-    requires { ⌜ start ≤ length (now script) ⌝ }
-    ensures text { λ r. ⌜ now r ≡ first-piece 10 (drop start (now (script .entry))) ⌝ }
-    ensures within { λ r. ⌜ start + length (now r) ≤ length (now (script .entry)) ⌝ }
+    requires { start ≤ length script.now }
+    ensures text { result.now ≡ first_piece 10 (drop start script.now) }
+    ensures within { start + length result.now ≤ length script.now }
 {
     piece(&script[start..], b'\n')
 }

@@ -1,14 +1,11 @@
 // The listing of a script: a line for each of its first firings, or the text of its fault.
-ghost use mathlib.Core.Path.{_≡_};
-ghost use Prim.Native.Nat.{_≤_};
-ghost use lib.ListN.{length};
-ghost use Rattle·std.specs.Vec.{made};
-ghost use Rattle·forecasting.specs.Forecast.{places, how-many, row-after};
-ghost use Rattle·listing·specs.Listing.{listed, listing-text, copy-answer, copied};
-ghost use Rattle·listing·specs.Page.{page-text, page-after};
+ghost use Rattle.std.specs.Prelude.{◌≡◌, ◌≤◌, length};
+ghost use Rattle.forecasting.specs.Forecast.{places, how_many, row_after};
+ghost use Rattle.listing.specs.Listing.{listed, listing_text, copy_answer, copied};
+ghost use Rattle.listing.specs.Page.{page_text, page_after};
+
 use crate::page::Page;
-use fault::Cause;
-use fault::Fault;
+use fault::{Cause, Fault};
 use forecasting::forecast;
 use slots::moment::Moment;
 
@@ -21,9 +18,9 @@ const MOST_LINES: usize = 20;
 
 // The first firings from moment 0.
 fn list(script: &[u8], moments: &mut [u64], slots: &mut [u8]) -> Result<usize, Fault>
-    ensures answer { λ r. ⌜ r ≡ how-many (listed (places (now (moments .entry)) (now (slots .entry))) (now (script .entry))) ⌝ }
-    ensures moments { λ _. ⌜ now (moments .exit) ≡ row-after (λ d. d .moment) (listed (places (now (moments .entry)) (now (slots .entry))) (now (script .entry))) (now (moments .entry)) ⌝ }
-    ensures slots { λ _. ⌜ now (slots .exit) ≡ row-after (λ d. d .slot) (listed (places (now (moments .entry)) (now (slots .entry))) (now (script .entry))) (now (slots .entry)) ⌝ }
+    ensures answer { result ≡ how_many (listed (places moments.old slots.old) script.now) }
+    ensures moments { moments.new ≡ row_after (λ d. d.moment) (listed (places moments.old slots.old) script.now) moments.old }
+    ensures slots { slots.new ≡ row_after (λ d. d.slot) (listed (places moments.old slots.old) script.now) slots.old }
 {
     if script.len() > MOST_BYTES {
         return Err(Fault::in_script(Cause::NoPlace, 0, MOST_BYTES));
@@ -33,8 +30,8 @@ fn list(script: &[u8], moments: &mut [u64], slots: &mut [u8]) -> Result<usize, F
 }
 
 fn write(page: &mut Page, script: &[u8])
-    ensures text { λ _. ⌜ page-text (now (page .exit)) ≡ page-after (page-text (now (page .entry))) (listing-text (now (script .entry))) ⌝ }
-    ensures size { λ _. ⌜ length (listing-text (now (script .entry))) ≤ 1024 ⌝ }
+    ensures text { page_text page.new ≡ page_after (page_text page.old) (listing_text script.now) }
+    ensures size { length (listing_text script.now) ≤ 1024 }
 {
     let mut moments = [0; MOST_LINES];
     let mut slots = [0; MOST_LINES];
@@ -46,8 +43,8 @@ fn write(page: &mut Page, script: &[u8])
 
 // Writes the listing into a buffer, and answers how many bytes it has. A buffer that is too short is left alone.
 pub fn listing(script: &[u8], buffer: &mut [u8]) -> Result<usize, Fault>
-    ensures answer { λ r. ⌜ r ≡ copy-answer (listing-text (now (script .entry))) (now (buffer .entry)) ⌝ }
-    ensures buffer { λ _. ⌜ now (buffer .exit) ≡ copied (listing-text (now (script .entry))) (now (buffer .entry)) ⌝ }
+    ensures answer { result ≡ copy_answer (listing_text script.now) buffer.old }
+    ensures buffer { buffer.new ≡ copied (listing_text script.now) buffer.old }
 {
     let mut page = Page::new();
     write(&mut page, script);

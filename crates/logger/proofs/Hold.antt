@@ -1,28 +1,21 @@
 -- The law of hold: the distance that it waits for is the smallest of the standing slots. Assumes nothing.
-use mathlib.Core.Path.{_≡_, refl}
-use mathlib.Core.Bool.{Bool, true, false, cond}
-use mathlib.Core.Logic.{_⊎_, inl, inr}
-use Prim.Native.Nat.{ℕ, _<_}
-use native.Mathlib.Omega.{arith}
-use lib.Dec.{eqb}
-use Rattle·std.proofs.shelf.Tests.{eqb-true, eqb-false}
-use Rattle·std.specs.declared.option.Option.{Option}
-use Rattle·std.specs.declared.option.Option.the-variants.{Some, None}
-use Rattle·clock.specs.Hold.{wait-for, Waits}
-use Rattle·clock.proofs.Waiting.{waits}
-use Rattle·table.specs.Table.{nearest}
-use Rattle·table.proofs.Nearest.{Answer, answered}
-use Rattle·logger·specs.State.{Log}
-use Rattle·logger·specs.Calls.{held-for, hold-answer, HoldLaw}
+use Rattle.std.proofs.Common.{◌≡◌, ℕ, ◌<◌, Bool, true, false, cond, eqb, ◌⊎◌, Some, None, Option, refl, inl, inr, arith}
+use Rattle.std.proofs.lemmas.Bool.{eqb-true, eqb-false}
+use Rattle.clock.specs.Hold.{wait_for, Waits}
+use Rattle.clock.proofs.Waiting.{waits}
+use Rattle.table.specs.Table.{nearest}
+use Rattle.table.proofs.Nearest.{Answer, answered}
+use Rattle.logger.specs.State.{Log}
+use Rattle.logger.specs.Calls.{held_for, hold_answer, HoldLaw}
 
-pub hold-law : {X : Type 0} (l : Log X) → HoldLaw l (hold-answer l)
-hold-law l = by (nearest (l .moment) (l .slots)) (answered (l .moment) (l .slots))
+pub hold_law : {X : Type 0} (l : Log X) → HoldLaw l (hold_answer l)
+hold_law l = by (nearest l.moment l.slots) (answered l.moment l.slots)
   where
     wait : (left : ℕ) (b : Bool) → eqb left 0 ≡ b
-        → ((left ≡ 0) × (cond b 0 (wait-for (l .stack) left) ≡ 0)) ⊎ ((0 < left) × Waits (l .stack) left (cond b 0 (wait-for (l .stack) left)))
+        → ((left ≡ 0) × (cond b 0 (wait_for l.stack left) ≡ 0)) ⊎ ((0 < left) × Waits l.stack left (cond b 0 (wait_for l.stack left)))
     wait left true t = inl (eqb-true left 0 t, refl)
-    wait left false t = let some : left ≡ 0 → ⊥ = eqb-false left 0 t in inr (omega arith, waits (l .stack) left)
+    wait left false t = let some : left ≡ 0 → ⊥ = eqb-false left 0 t in inr (omega arith, waits l.stack left)
 
-    by : (o : Option ℕ) → Answer (l .moment) (l .slots) o → HoldLaw l (held-for (l .stack) o)
+    by : (o : Option ℕ) → Answer l.moment l.slots o → HoldLaw l (held_for l.stack o)
     by None a = inl (a, refl)
-    by (Some left) a = inr (left, record { place = a .place; stands = a .stands; least = a .least }, wait left (eqb left 0) refl)
+    by (Some left) a = inr (left, record { place = a.place; stands = a.stands; least = a.least }, wait left (eqb left 0) refl)

@@ -1,16 +1,10 @@
 -- What a look at one slot answers: its state, or that there is no such slot.
 -- Assumes nothing.
-use mathlib.Core.Bool.{cond}
-use mathlib.Core.List.{List}
-use Prim.Native.Nat.{ℕ}
-use lib.Dec.{ltb}
-use lib.ListN.{getD}
-use Rattle·std.specs.declared.result.Result.{Result}
-use Rattle·std.specs.declared.result.Result.the-variants.{Ok, Err}
-use Rattle·fault.specs.declared.Fault.{Fault}
-use Rattle·fault.specs.Table.{no-slot}
-use Rattle·jobs.specs.declared.Slot.{Slot}
-use Rattle·jobs.specs.declared.Slot.the-variants.{Free}
+use Rattle.std.specs.Prelude.{ℕ, cond, List, Ok, Err, Result, nat_lt, slice_index_or}
+use Rattle.fault.specs.declared.Fault.{Fault}
+use Rattle.fault.specs.Table.{no_slot}
+use Rattle.jobs.specs.declared.Slot.{Slot}
+use Rattle.jobs.specs.declared.Slot.TheVariants.{Free}
 
-abbrev pub look-answer : List Slot → ℕ → Result Slot Fault
-look-answer slots j = cond (ltb 31 j) (Err (no-slot j)) (Ok (getD slots j Free))
+abbrev pub look_answer : List Slot → ℕ → Result Slot Fault
+look_answer slots j = cond (nat_lt 31 j) (Err (no_slot j)) (Ok (slice_index_or slots j Free))

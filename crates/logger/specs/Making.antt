@@ -1,10 +1,9 @@
 -- What the maker of a logger gives.
 -- Assumes nothing.
-use Prim.Native.Nat.{ℕ}
-use lib.ListN.{replicate}
-use Rattle·clock.specs.Meaning.{Meaning}
-use Rattle·jobs.specs.declared.Slot.the-variants.{Free}
-use Rattle·logger·specs.State.{Log}
+use Rattle.std.specs.Prelude.{ℕ, replicate}
+use Rattle.clock.specs.Meaning.{Meaning}
+use Rattle.jobs.specs.declared.Slot.TheVariants.{Free}
+use Rattle.logger.specs.State.{Log}
 
 -- a new logger: its moment is the start, and each of its 32 slots is free
 abbrev pub fresh : {X : Type 0} → ℕ → ℕ → Meaning X → Log X

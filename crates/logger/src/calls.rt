@@ -1,32 +1,21 @@
 // The calls of a logger. A refused call changes nothing, but that a ticket is spent.
-ghost use mathlib.Core.Path.{_≡_};
-ghost use mathlib.Core.Bool.{true};
-ghost use Prim.Native.Nat.{ℕ, _^_, _<_};
-ghost use Rattle·std.specs.Vec.{made};
-ghost use Rattle·clock.specs.Calls.{Taken};
-ghost use Rattle·slots.specs.Slots.{set-up-slot, coming, fired};
-ghost use Rattle·logger·specs.State.{view, slot-of, with-slot};
-ghost use Rattle·logger·specs.Calls.{after-set-up, Served, SetUp, Erranded, CalledOff, Settled, Nexted, NextLaw, Held, HoldLaw};
-ghost use Rattle·logger·specs.Making.{fresh};
-ghost use Rattle·logger·specs.Choice.{Chosen};
-ghost use Rattle·logger·specs.Within.{slot-fits, Reached};
+ghost use Rattle.std.specs.Prelude.{◌≡◌, ℕ, ◌^◌, ◌<◌, true, IfOk};
+ghost use Rattle.clock.specs.Calls.{Taken};
+ghost use Rattle.slots.specs.Slots.{set_up_slot, coming, fired};
+ghost use Rattle.logger.specs.State.{view, slot_of, with_slot};
+ghost use Rattle.logger.specs.Calls.{after_set_up, Served, SetUp, Erranded, CalledOff, Settled, Nexted, NextLaw, Held, HoldLaw};
+ghost use Rattle.logger.specs.Making.{fresh};
+ghost use Rattle.logger.specs.Choice.{Chosen};
+ghost use Rattle.logger.specs.Within.{slot_fits, Reached};
+
 use crate::logger::Logger;
 use crate::ticket::Ticket;
 use clock::alarm::Alarm;
 use clock::wait::ticks_until;
-use fault::Cause;
-use fault::Fault;
-use jobs::Action;
-use jobs::Firing;
-use jobs::Job;
-use jobs::Kind;
-use jobs::Outcome;
-use jobs::Slot;
-use slots::call_off;
-use slots::fire;
+use fault::{Cause, Fault};
+use jobs::{Action, Firing, Job, Kind, Outcome, Slot};
 use slots::moment::Moment;
-use slots::set_up;
-use slots::settle;
+use slots::{call_off, fire, set_up, settle};
 use table::Table;
 
 // The last moment at which a sample is still taken, 2^62 - 2^32: a sample brings fewer than 2^32 ticks.
@@ -34,8 +23,8 @@ const LAST_SERVED: u64 = 4_611_686_014_132_420_608;
 
 // The ticks that a sample brings, fewer than 2^32 since they are no more than the true ticks.
 fn taken<A: Alarm>(alarm: &mut A, sample: A::Sample) -> Result<u64, Fault>
-    ensures taken { λ r. ⌜ Taken (A·Clock .meaning (now (alarm .entry))) (A·Alarm .appointment (now (alarm .entry))) sample r (A·Clock .meaning (now (alarm .exit))) (A·Alarm .appointment (now (alarm .exit))) ⌝ }
-    ensures few { λ r. ⌜ made r (λ n. n < 2 ^ 32) ⌝ }
+    ensures taken { Taken (A.Clock.meaning alarm.old) (A.Alarm.appointment alarm.old) sample result (A.Clock.meaning alarm.new) (A.Alarm.appointment alarm.new) }
+    ensures few { IfOk result (λ n. n < 2 ^ 32) }
 {
     alarm.take(sample)
 }
@@ -43,7 +32,7 @@ fn taken<A: Alarm>(alarm: &mut A, sample: A::Sample) -> Result<u64, Fault>
 impl<A: Alarm> Logger<A> {
     // A logger over the alarm: its moment is the start, and its slots are free.
     pub fn new(alarm: A, number: u16, start: Moment) -> Logger<A>
-        ensures { λ r. ⌜ view (A·Clock .meaning) r ≡ fresh number (start .ticks) (A·Clock .meaning alarm) ⌝ }
+        ensures { view A.Clock.meaning result ≡ fresh number start.ticks (A.Clock.meaning alarm) }
     {
         Logger {
             number,
@@ -55,15 +44,15 @@ impl<A: Alarm> Logger<A> {
 
     // Puts a slot into a state.
     fn put(&mut self, slot: usize, state: Slot)
-        requires { ⌜ slot-fits state ≡ true ⌝ }
-        ensures { λ _. ⌜ view (A·Clock .meaning) (now (self .exit)) ≡ with-slot (view (A·Clock .meaning) (now (self .entry))) slot state ⌝ }
+        requires { slot_fits state ≡ true }
+        ensures { view A.Clock.meaning self.new ≡ with_slot (view A.Clock.meaning self.old) slot state }
     {
         self.table.put(slot, state);
     }
 
     // Shows the logger a sample; answers the moment then.
     pub fn serve(&mut self, sample: A::Sample) -> Result<u64, Fault>
-        ensures { λ r. ⌜ ((d : ℕ) × Served (view (A·Clock .meaning) (now (self .entry))) d sample r (view (A·Clock .meaning) (now (self .exit)))) ⌝ }
+        ensures { (d : ℕ) × Served (view A.Clock.meaning self.old) d sample result (view A.Clock.meaning self.new) }
     {
         if self.moment.ticks > LAST_SERVED {
             return Err(Fault::in_logger(Cause::MomentLimit));
@@ -81,8 +70,8 @@ impl<A: Alarm> Logger<A> {
         job: Job,
         errand: bool,
     ) -> Result<u64, Fault>
-        ensures answer { λ r. ⌜ r ≡ set-up-slot (now (self .entry) .moment .ticks) slot (slot-of (view (A·Clock .meaning) (now (self .entry))) slot) reference delay job ⌝ }
-        ensures after { λ r. ⌜ view (A·Clock .meaning) (now (self .exit)) ≡ after-set-up (view (A·Clock .meaning) (now (self .entry))) slot job errand r ⌝ }
+        ensures answer { result ≡ set_up_slot self.old.moment.ticks slot (slot_of (view A.Clock.meaning self.old) slot) reference delay job }
+        ensures after { view A.Clock.meaning self.new ≡ after_set_up (view A.Clock.meaning self.old) slot job errand result }
     {
         let answer = set_up(
             self.table.state(slot),
@@ -106,14 +95,14 @@ impl<A: Alarm> Logger<A> {
         delay: u64,
         job: Job,
     ) -> Result<u64, Fault>
-        ensures { λ r. ⌜ SetUp (view (A·Clock .meaning) (now (self .entry))) slot reference delay job r (view (A·Clock .meaning) (now (self .exit))) ⌝ }
+        ensures { SetUp (view A.Clock.meaning self.old) slot reference delay job result (view A.Clock.meaning self.new) }
     {
         self.stand(slot, reference, delay, job, false)
     }
 
     // Frees a slot that stands; answers the moment at which it would have been due next.
     pub fn call_off(&mut self, slot: usize) -> Result<u64, Fault>
-        ensures { λ r. ⌜ CalledOff (view (A·Clock .meaning) (now (self .entry))) slot r (view (A·Clock .meaning) (now (self .exit))) ⌝ }
+        ensures { CalledOff (view A.Clock.meaning self.old) slot result (view A.Clock.meaning self.new) }
     {
         let answer = call_off(self.table.state(slot), slot);
         if answer.is_ok() {
@@ -124,22 +113,22 @@ impl<A: Alarm> Logger<A> {
 
     // The slot that is to fire, where one is due.
     fn ready(&self) -> Option<usize>
-        ensures { λ r. ⌜ Chosen (view (A·Clock .meaning) (now (self .entry))) r ⌝ }
+        ensures { Chosen (view A.Clock.meaning self.now) result }
     {
         self.table.ready(self.moment.ticks)
     }
 
     // The firing of a slot that is due, and the state that it leaves.
     fn firing(&self, slot: usize) -> (Option<Firing>, Slot)
-        requires { ⌜ Reached (now self .moment .ticks) (slot-of (view (A·Clock .meaning) (now self)) slot) ⌝ }
-        ensures answer { λ r. ⌜ r ≡ (coming (now (self .entry) .moment .ticks) slot (slot-of (view (A·Clock .meaning) (now (self .entry))) slot), fired (slot-of (view (A·Clock .meaning) (now (self .entry))) slot)) ⌝ }
-        ensures limits { λ r. ⌜ slot-fits (r .1) ≡ true ⌝ }
+        requires { Reached self.now.moment.ticks (slot_of (view A.Clock.meaning self.now) slot) }
+        ensures answer { result ≡ (coming self.now.moment.ticks slot (slot_of (view A.Clock.meaning self.now) slot), fired (slot_of (view A.Clock.meaning self.now) slot)) }
+        ensures limits { slot_fits result.1 ≡ true }
     {
         fire(self.table.state(slot), self.moment, slot)
     }
 
     fn advance(&mut self) -> Option<Firing>
-        ensures { λ r. ⌜ Nexted (view (A·Clock .meaning) (now (self .entry))) r (view (A·Clock .meaning) (now (self .exit))) ⌝ }
+        ensures { Nexted (view A.Clock.meaning self.old) result (view A.Clock.meaning self.new) }
     {
         let slot = self.ready()?;
         let (firing, after) = self.firing(slot);
@@ -149,22 +138,22 @@ impl<A: Alarm> Logger<A> {
 
     // The next firing that is due, or none. To be called until it answers none.
     pub fn next(&mut self) -> Option<Firing>
-        ensures answer { λ r. ⌜ Nexted (view (A·Clock .meaning) (now (self .entry))) r (view (A·Clock .meaning) (now (self .exit))) ⌝ }
-        ensures law { λ r. ⌜ NextLaw (view (A·Clock .meaning) (now (self .entry))) r ⌝ }
+        ensures answer { Nexted (view A.Clock.meaning self.old) result (view A.Clock.meaning self.new) }
+        ensures law { NextLaw (view A.Clock.meaning self.old) result }
     {
         self.advance()
     }
 
     // How many true ticks may pass before the next sample, so that the next firing comes on its moment.
     pub fn hold(&mut self) -> u64
-        ensures answer { λ r. ⌜ Held (view (A·Clock .meaning) (now (self .entry))) r (view (A·Clock .meaning) (now (self .exit))) ⌝ }
-        ensures law { λ r. ⌜ HoldLaw (view (A·Clock .meaning) (now (self .entry))) r ⌝ }
+        ensures answer { Held (view A.Clock.meaning self.old) result (view A.Clock.meaning self.new) }
+        ensures law { HoldLaw (view A.Clock.meaning self.old) result }
     {
         self.wait()
     }
 
     fn wait(&mut self) -> u64
-        ensures { λ r. ⌜ Held (view (A·Clock .meaning) (now (self .entry))) r (view (A·Clock .meaning) (now (self .exit))) ⌝ }
+        ensures { Held (view A.Clock.meaning self.old) result (view A.Clock.meaning self.new) }
     {
         match self.table.nearest(self.moment.ticks) {
             Some(0) => 0,
@@ -181,7 +170,7 @@ impl<A: Alarm> Logger<A> {
         delay: u64,
         action: Action,
     ) -> Result<Ticket, Fault>
-        ensures { λ r. ⌜ Erranded (view (A·Clock .meaning) (now (self .entry))) slot reference delay action r (view (A·Clock .meaning) (now (self .exit))) ⌝ }
+        ensures { Erranded (view A.Clock.meaning self.old) slot reference delay action result (view A.Clock.meaning self.new) }
     {
         let job = Job {
             kind: Kind::Once,
@@ -197,7 +186,7 @@ impl<A: Alarm> Logger<A> {
 
     // Ends an errand, fired or not, and frees its slot. The ticket is spent in any case.
     pub fn settle(&mut self, mut ticket: Ticket) -> Result<Outcome, Fault>
-        ensures { λ r. ⌜ Settled (view (A·Clock .meaning) (now (self .entry))) ticket r (view (A·Clock .meaning) (now (self .exit))) ⌝ }
+        ensures { Settled (view A.Clock.meaning self.old) ticket result (view A.Clock.meaning self.new) }
     {
         ticket.spent = true;
         let slot = ticket.slot;

@@ -1,7 +1,7 @@
 // The logger's state, over any alarm.
-ghost use mathlib.Core.Path.{_≡_};
-ghost use mathlib.Core.Bool.{true};
-ghost use Rattle·logger·specs.Within.{table-fits};
+ghost use Rattle.std.specs.Prelude.{◌≡◌, true};
+ghost use Rattle.logger.specs.Within.{table_fits};
+
 use slots::moment::Moment;
 use table::Table;
 
@@ -12,5 +12,5 @@ pub struct Logger<A> {
     pub(crate) moment: Moment,
     pub(crate) table: Table,
     pub(crate) alarm: A,
-    ghost limits: { table-fits (table .slots) ≡ true },
+    ghost limits: { table_fits table.slots ≡ true },
 }

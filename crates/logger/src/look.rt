@@ -1,10 +1,9 @@
 // What a logger tells without being changed.
-ghost use mathlib.Core.Path.{_≡_};
-ghost use lib.ListN.{length};
-ghost use Rattle·logger·specs.Look.{look-answer};
+ghost use Rattle.std.specs.Prelude.{◌≡◌, length};
+ghost use Rattle.logger.specs.Look.{look_answer};
+
 use crate::logger::Logger;
-use fault::Cause;
-use fault::Fault;
+use fault::{Cause, Fault};
 use jobs::Slot;
 
 // The slots are numbered from 0 up to this.
@@ -13,21 +12,21 @@ const LAST: usize = 31;
 impl<A> Logger<A> {
     // The number that its tickets carry.
     pub fn number(&self) -> u16
-        ensures { λ r. ⌜ r ≡ now (self .entry) .number ⌝ }
+        ensures { result ≡ self.now.number }
     {
         self.number
     }
 
     // The moment that was read last, or the start.
     pub fn moment(&self) -> u64
-        ensures { λ r. ⌜ r ≡ now (self .entry) .moment .ticks ⌝ }
+        ensures { result ≡ self.now.moment.ticks }
     {
         self.moment.ticks
     }
 
     // The state of one slot.
     pub fn slot(&self, slot: usize) -> Result<Slot, Fault>
-        ensures { λ r. ⌜ r ≡ look-answer (now (self .entry) .table .slots) slot ⌝ }
+        ensures { result ≡ look_answer self.now.table.slots slot }
     {
         if slot > LAST {
             return Err(Fault::in_slot(Cause::NoSlot, slot));
@@ -37,8 +36,8 @@ impl<A> Logger<A> {
 
     // The whole table, slot 0 first.
     pub fn slots(&self) -> &[Slot; 32]
-        ensures table { λ r. ⌜ now r ≡ now (self .entry) .table .slots ⌝ }
-        ensures size { λ r. ⌜ length (now r) ≡ 32 ⌝ }
+        ensures table { result.now ≡ self.now.table.slots }
+        ensures size { length result.now ≡ 32 }
     {
         self.table.slots()
     }

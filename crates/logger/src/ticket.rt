@@ -1,6 +1,5 @@
 // Tickets of errands.
-ghost use mathlib.Core.Path.{_≡_};
-ghost use mathlib.Core.Bool.{true};
+ghost use Rattle.std.specs.Prelude.{◌≡◌, true};
 
 // The right to settle one errand. It cannot be let go until it is spent, and only `settle` spends it.
 #[derive(Debug)]
@@ -13,14 +12,14 @@ pub struct Ticket {
 impl Ticket {
     // The number of the logger that gave it.
     pub fn number(&self) -> u16
-        ensures { λ r. ⌜ r ≡ now (self .entry) .number ⌝ }
+        ensures { result ≡ self.now.number }
     {
         self.number
     }
 
     // The slot of its errand.
     pub fn slot(&self) -> usize
-        ensures { λ r. ⌜ r ≡ now (self .entry) .slot ⌝ }
+        ensures { result ≡ self.now.slot }
     {
         self.slot
     }
@@ -28,7 +27,7 @@ impl Ticket {
 
 impl Drop for Ticket {
     fn drop(self)
-        requires { ⌜ self .spent ≡ true ⌝ }
+        requires { self.spent ≡ true }
     {
         let Ticket {
             number: _,

@@ -1,24 +1,11 @@
 // The worked run, and tickets in use.
+use clock::alarm::Alarm;
 use fault::Fault;
-use fault::FaultDebug;
-use jobs::Action;
-use jobs::ActionDebug;
-use jobs::ActionPartialEq;
-use jobs::Firing;
-use jobs::FiringDebug;
-use jobs::FiringPartialEq;
-use jobs::Job;
-use jobs::Kind;
-use jobs::Outcome;
-use jobs::OutcomeDebug;
-use jobs::OutcomePartialEq;
+use jobs::{Action, Firing, Job, Kind, Outcome};
 use logger::logger::Logger;
 use slots::moment::Moment;
-use std::test::*;
-use up::UpAlarm;
-use up::UpClock;
-use up::UpCounter;
-use up::Word;
+use std::test::Fail;
+use up::{UpCounter, Word};
 
 fn made() -> Result<Logger<UpCounter>, Fault> {
     let counter = UpCounter::new(16, Word(0), 1)?;
@@ -40,7 +27,7 @@ fn settled(due: u64, fired: bool) -> Outcome {
 }
 
 #[test]
-fn a_tie_and_a_late_serve() -> Result<(), Fail> {
+fn a_tie_and_a_late_serve(rt: HostRuntime) -> Result<(), Fail> {
     let mut logger = made()?;
     let every = Job {
         kind: Kind::Every { period: 10 },
@@ -50,20 +37,21 @@ fn a_tie_and_a_late_serve() -> Result<(), Fail> {
         kind: Kind::Once,
         action: Action::Mark,
     };
-    check_eq(logger.set_up(2, 1000, 10, every)?, 1010)?;
-    check_eq(logger.set_up(1, 1000, 20, once)?, 1020)?;
-    check_eq(logger.hold(), 10)?;
-    check_eq(logger.serve(Word(25))?, 1025)?;
-    check_eq(logger.hold(), 0)?;
-    check_eq(logger.next(), marked(2, 1010))?;
-    check_eq(logger.next(), marked(1, 1020))?;
-    check_eq(logger.next(), marked(2, 1020))?;
-    check_eq(logger.next(), None)?;
-    check_eq(logger.call_off(2)?, 1030)
+    assert_eq!(rt; logger.set_up(2, 1000, 10, every)?, 1010);
+    assert_eq!(rt; logger.set_up(1, 1000, 20, once)?, 1020);
+    assert_eq!(rt; logger.hold(), 10);
+    assert_eq!(rt; logger.serve(Word(25))?, 1025);
+    assert_eq!(rt; logger.hold(), 0);
+    assert_eq!(rt; logger.next(), marked(2, 1010));
+    assert_eq!(rt; logger.next(), marked(1, 1020));
+    assert_eq!(rt; logger.next(), marked(2, 1020));
+    assert_eq!(rt; logger.next(), None);
+    assert_eq!(rt; logger.call_off(2)?, 1030);
+    Ok(())
 }
 
 #[test]
-fn one_errand_after_another() -> Result<(), Fail> {
+fn one_errand_after_another(rt: HostRuntime) -> Result<(), Fail> {
     let mut logger = made()?;
     let ticket = logger.errand(3, 1000, 10, Action::Mark)?;
     let early = logger.settle(ticket)?;
@@ -71,8 +59,9 @@ fn one_errand_after_another() -> Result<(), Fail> {
     let served = logger.serve(Word(20));
     let firing = logger.next();
     let late = logger.settle(ticket)?;
-    check_eq(served?, 1020)?;
-    check(firing.is_some())?;
-    check_eq(early, settled(1010, false))?;
-    check_eq(late, settled(1020, true))
+    assert_eq!(rt; served?, 1020);
+    assert!(rt; firing.is_some());
+    assert_eq!(rt; early, settled(1010, false));
+    assert_eq!(rt; late, settled(1020, true));
+    Ok(())
 }

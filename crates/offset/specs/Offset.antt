@@ -1,20 +1,20 @@
 -- Offset: the clock below with its reading set forward, and with it the point of an appointment.
 -- Assumes nothing.
-use Prim.Native.Nat.{ℕ}
-use Rattle·clock.specs.Wrap.{plus}
-use Rattle·clock.specs.Meaning.{Meaning}
-use Rattle·clock.specs.declared.appointment.Appointment.{Appointment}
-use Rattle·clock.specs.declared.appointment.Appointment.the-variants.{Idle, Standing, Due}
+use Rattle.std.specs.Prelude.{ℕ}
+use Rattle.clock.specs.Wrap.{plus}
+use Rattle.clock.specs.Meaning.{Meaning}
+use Rattle.clock.specs.declared.appointment.Appointment.{Appointment}
+use Rattle.clock.specs.declared.appointment.Appointment.TheVariants.{Idle, Standing, Due}
 
 -- m is the clock below
-abbrev pub offset-meaning : {X : Type 0} → Meaning X → ℕ → Meaning X
-offset-meaning m by = record {
-  width = m .width;
-  reading = plus (m .width) (m .reading) by;
-  reach = m .reach;
-  shown = m .shown;
-  measure = m .measure;
-  tag = m .tag;
+abbrev pub offset_meaning : {X : Type 0} → Meaning X → ℕ → Meaning X
+offset_meaning m by = record {
+  width = m.width;
+  reading = plus m.width m.reading by;
+  reach = m.reach;
+  shown = m.shown;
+  measure = m.measure;
+  tag = m.tag;
 }
 
 -- the appointment below, as the layer has it: ticks are the same, a point is set forward as the reading is

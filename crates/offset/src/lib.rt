@@ -3,6 +3,4 @@ mod offset;
 mod shift;
 
 pub use offset::Offset;
-pub use offset::OffsetAlarm;
-pub use offset::OffsetClock;
 pub use shift::Shift;

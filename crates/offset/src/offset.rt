@@ -2,18 +2,18 @@
 //
 // Its ticks and its width are those below, so it hands its appointment down, with readings turned back on the way down and
 // forward on the way up.
-ghost use mathlib.Core.Path.{_≡_};
-ghost use Prim.Native.Nat.{_^_, _<_, _≤_};
-ghost use Rattle·clock.specs.Calls.{Taken, SetTo};
-ghost use Rattle·clock.specs.Wrap.{plus};
-ghost use Rattle·offset·specs.Offset.{offset-meaning, shifted};
-ghost use Rattle·clock.specs.declared.appointment.Appointment.the-variants.{Idle};
+ghost use Rattle.std.specs.Prelude.{◌≡◌, ◌^◌, ◌<◌, ◌≤◌};
+ghost use Rattle.clock.specs.Calls.{Taken, SetTo};
+ghost use Rattle.clock.specs.Wrap.{plus};
+ghost use Rattle.offset.specs.Offset.{offset_meaning, shifted};
+ghost use Rattle.clock.specs.declared.appointment.Appointment.TheVariants.{Idle};
+ghost use Rattle.offset.specs.ShiftedLemmas.{offset_lawful};
+ghost use Rattle.std.proofs.Common.{rules};
+
 use crate::shift::Shift;
-use clock::alarm::Alarm;
-use clock::alarm::Clock;
+use clock::alarm::{Alarm, Clock};
 use clock::width::Width;
-use fault::Cause;
-use fault::Fault;
+use fault::{Cause, Fault};
 
 #[derive(Drop)]
 pub struct Offset<A: Alarm> {
@@ -24,8 +24,8 @@ pub struct Offset<A: Alarm> {
 impl<A: Alarm> Offset<A> {
     // An idle layer: an appointment that stood below is given up.
     pub fn new(mut below: A, shift: Shift) -> Offset<A>
-        ensures clock { λ r. ⌜ offset-meaning (A·Clock .meaning (r .below)) (r .shift .by) ≡ offset-meaning (A·Clock .meaning below) (shift .by) ⌝ }
-        ensures appointment { λ r. ⌜ shifted (A·Clock .meaning (r .below) .width) (r .shift .by) (A·Alarm .appointment (r .below)) ≡ Idle ⌝ }
+        ensures clock { offset_meaning (A.Clock.meaning result.below) result.shift.by ≡ offset_meaning (A.Clock.meaning below) shift.by }
+        ensures appointment { shifted (A.Clock.meaning result.below).width result.shift.by (A.Alarm.appointment result.below) ≡ Idle }
     {
         let _ = below.stop();
         Offset { below, shift }
@@ -33,23 +33,23 @@ impl<A: Alarm> Offset<A> {
 
     // A reading of the alarm below as this clock has it.
     fn forward(&self, reading: u64) -> u64
-        requires { ⌜ reading < 2 ^ 48 ⌝ }
-        ensures { λ r. ⌜ r ≡ plus (A·Clock .meaning (now (self .entry) .below) .width) reading (now (self .entry) .shift .by) ⌝ }
+        requires { reading < 2 ^ 48 }
+        ensures { result ≡ plus (A.Clock.meaning self.now.below).width reading self.now.shift.by }
     {
         (reading + self.shift.by) % Width::of(&self.below).turn()
     }
 
     // What the alarm below makes of a sample, this one makes of it.
     fn pass_on(&mut self, sample: A::Sample) -> Result<u64, Fault>
-        ensures { λ r. ⌜ Taken (offset-meaning (A·Clock .meaning (now (self .entry) .below)) (now (self .entry) .shift .by)) (shifted (A·Clock .meaning (now (self .entry) .below) .width) (now (self .entry) .shift .by) (A·Alarm .appointment (now (self .entry) .below))) sample r (offset-meaning (A·Clock .meaning (now (self .exit) .below)) (now (self .exit) .shift .by)) (shifted (A·Clock .meaning (now (self .exit) .below) .width) (now (self .exit) .shift .by) (A·Alarm .appointment (now (self .exit) .below))) ⌝ }
+        ensures { Taken (offset_meaning (A.Clock.meaning self.old.below) self.old.shift.by) (shifted (A.Clock.meaning self.old.below).width self.old.shift.by (A.Alarm.appointment self.old.below)) sample result (offset_meaning (A.Clock.meaning self.new.below) self.new.shift.by) (shifted (A.Clock.meaning self.new.below).width self.new.shift.by (A.Alarm.appointment self.new.below)) }
     {
         self.below.take(sample)
     }
 
     // Hands an appointment down, with its reference turned back.
     fn place(&mut self, reference: u64, delay: u64) -> Result<(), Fault>
-        requires { ⌜ reference < 2 ^ A·Clock .meaning (now self .below) .width ⌝ }
-        ensures { λ r. ⌜ SetTo (offset-meaning (A·Clock .meaning (now (self .entry) .below)) (now (self .entry) .shift .by)) (shifted (A·Clock .meaning (now (self .entry) .below) .width) (now (self .entry) .shift .by) (A·Alarm .appointment (now (self .entry) .below))) reference delay r (offset-meaning (A·Clock .meaning (now (self .exit) .below)) (now (self .exit) .shift .by)) (shifted (A·Clock .meaning (now (self .exit) .below) .width) (now (self .exit) .shift .by) (A·Alarm .appointment (now (self .exit) .below))) ⌝ }
+        requires { reference < 2 ^ (A.Clock.meaning self.old.below).width }
+        ensures { SetTo (offset_meaning (A.Clock.meaning self.old.below) self.old.shift.by) (shifted (A.Clock.meaning self.old.below).width self.old.shift.by (A.Alarm.appointment self.old.below)) reference delay result (offset_meaning (A.Clock.meaning self.new.below) self.new.shift.by) (shifted (A.Clock.meaning self.new.below).width self.new.shift.by (A.Alarm.appointment self.new.below)) }
     {
         let width = Width::of(&self.below);
         let back = width.difference(reference, self.shift.by % width.turn());
@@ -57,10 +57,12 @@ impl<A: Alarm> Offset<A> {
     }
 }
 
-pub impl<A: Alarm> Clock for Offset<A> as OffsetClock {
+impl<A: Alarm> Clock for Offset<A> {
     type Sample = A::Sample;
 
-    ghost meaning = { λ x. offset-meaning (A·Clock .meaning (x .below)) (x .shift .by) };
+    ghost meaning = { λ x. offset_meaning (A.Clock.meaning x.below) x.shift.by };
+
+    ghost lawful = { λ x. offset_lawful (A.Clock.meaning x.below) (A.Clock.lawful x.below) x.shift.by };
 
     fn width(&self) -> u32 {
         self.below.width()
@@ -76,8 +78,10 @@ pub impl<A: Alarm> Clock for Offset<A> as OffsetClock {
     }
 }
 
-pub impl<A: Alarm> Alarm for Offset<A> as OffsetAlarm {
-    ghost appointment = { λ x. shifted (A·Clock .meaning (x .below) .width) (x .shift .by) (A·Alarm .appointment (x .below)) };
+impl<A: Alarm> Alarm for Offset<A> {
+    ghost appointment = { λ x. shifted (A.Clock.meaning x.below).width x.shift.by (A.Alarm.appointment x.below) };
+
+    ghost sound = { Prim.search rules };
 
     fn take(&mut self, sample: A::Sample) -> Result<u64, Fault> {
         self.pass_on(sample)

@@ -1,10 +1,9 @@
 // What the layer is made with. Its limits are judged here, so that the making of a layer cannot be refused.
-ghost use mathlib.Core.Path.{_≡_};
-ghost use Prim.Native.Nat.{_^_, _<_};
-ghost use Rattle·clock.specs.Making.{seen};
-ghost use Rattle·offset·specs.Shift.{shift-made};
-use fault::Cause;
-use fault::Fault;
+ghost use Rattle.std.specs.Prelude.{◌≡◌, ◌^◌, ◌<◌};
+ghost use Rattle.clock.specs.Making.{seen};
+ghost use Rattle.offset.specs.Shift.{shift_made};
+
+use fault::{Cause, Fault};
 
 // How far a reading is set forward.
 #[derive(Clone, Copy)]
@@ -16,7 +15,7 @@ pub struct Shift {
 impl Shift {
     // Below 2^48.
     pub fn new(by: u64) -> Result<Shift, Fault>
-        ensures { λ r. ⌜ seen (λ s. s .by) r ≡ shift-made by ⌝ }
+        ensures { seen (λ s. s.by) result ≡ shift_made by }
     {
         if by >= 1 << 48 {
             return Err(Fault::in_alarm(Cause::BadSetting));

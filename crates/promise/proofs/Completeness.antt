@@ -1,77 +1,67 @@
 -- Every due moment reached is reported in the first emptying after, and once only. Assumes nothing.
-use mathlib.Core.Path.{_≡_, refl, sym, ap, subst, _∙_}
-use mathlib.Core.Bool.{Bool, true, false, _||_}
-use mathlib.Core.List.{List}
-use mathlib.Core.Logic.{_⊎_, inl, inr}
-use Prim.Native.Nat.{ℕ, zero, suc, _+_, _<_, _≤_}
-use native.Mathlib.Omega.{arith}
-use lib.Dec.{T}
-use lib.ListN.{length}
-use Rattle·std.proofs.shelf.Tests.{cases-lt, cases-eq, cases-order}
-use Rattle·std.specs.declared.option.Option.{Option}
-use Rattle·std.specs.declared.option.Option.the-variants.{Some, None}
-use Rattle·std.specs.declared.result.Result.the-variants.{Ok}
-use Rattle·jobs.specs.declared.Job.{Job}
-use Rattle·jobs.specs.declared.Action.{Action}
-use Rattle·jobs.specs.declared.Firing.{Firing}
-use Rattle·logger.specs.State.{Log}
-use Rattle·slots.specs.Slots.{coming, fired}
-use Rattle·table.proofs.Soonest.{coming-at, coming-slot}
-use Rattle·promise·specs.Runs.{Event, serve, set-up, errand, call-off, settle, next, hold, is-next, emptied-by}
-use Rattle·promise·specs.Words.{sets, DueMoment, At, FirstEmptying, NoSetUp, SetUpAt, ReachedBy, ReportedAt}
-use Rattle·promise·specs.Promise.{Complete, Unrepeated}
-use Rattle·promise·proofs.Basics.{none-some, some-none, some-same, true-false, there, within}
-use Rattle·promise·proofs.Firings.{Promises, SteadySlot, comes, fired-keeps, fired-later}
-use Rattle·promise·proofs.Changes.{same, moves, starts, ended, fires, no-next}
-use Rattle·promise·proofs.Courses.{Course}
-use Rattle·promise·proofs.Standing.{s-at, slot-at, ChangeAt, steady, stood, stands, kept-slot, moment-before, not-reached}
+use Rattle.std.proofs.Common.{◌≡◌, ℕ, zero, suc, ◌+◌, ◌<◌, ◌≤◌, Bool, true, false, ◌||◌, T, ◌⊎◌, List, length, Some, None, Ok, Option, sym, refl, ap, ◌∙◌, subst, inl, inr, arith}
+use Rattle.std.proofs.lemmas.Bool.{cases_lt, cases_eq, cases_order}
+use Rattle.jobs.specs.declared.Job.{Job}
+use Rattle.jobs.specs.declared.Action.{Action}
+use Rattle.jobs.specs.declared.Firing.{Firing}
+use Rattle.logger.specs.State.{Log}
+use Rattle.slots.specs.Slots.{coming, fired}
+use Rattle.table.proofs.Soonest.{coming_at, coming_slot}
+use Rattle.promise.specs.Runs.{Event, serve, set_up, errand, call_off, settle, next, hold, is_next, emptied_by}
+use Rattle.promise.specs.Words.{sets, DueMoment, At, FirstEmptying, NoSetUp, SetUpAt, ReachedBy, ReportedAt}
+use Rattle.promise.specs.Promise.{Complete, Unrepeated}
+use Rattle.promise.proofs.Basics.{none_some, some_none, some_same, true_false, there, within}
+use Rattle.promise.proofs.Firings.{Promises, SteadySlot, comes, fired_keeps, fired_later}
+use Rattle.promise.proofs.Changes.{same, moves, starts, ended, fires, no_next}
+use Rattle.promise.proofs.Courses.{Course}
+use Rattle.promise.proofs.Standing.{s_at, slot_at, ChangeAt, steady, stood, stands, kept_slot, moment_before, not_reached}
 
-next-form : {X : Type 0} (e : Event X) → is-next e ≡ true → (r : Option Firing) × (e ≡ next r)
-next-form (serve d x r) h = true-false (sym h)
-next-form (set-up k reference delay job r) h = true-false (sym h)
-next-form (errand k reference delay action r) h = true-false (sym h)
-next-form (call-off k r) h = true-false (sym h)
-next-form (settle ticket r) h = true-false (sym h)
-next-form (next r) h = (r, refl)
-next-form (hold n) h = true-false (sym h)
+next_form : {X : Type 0} (e : Event X) → is_next e ≡ true → (r : Option Firing) × (e ≡ next r)
+next_form (serve d x r) h = true_false (sym h)
+next_form (set_up k reference delay job r) h = true_false (sym h)
+next_form (errand k reference delay action r) h = true_false (sym h)
+next_form (call_off k r) h = true_false (sym h)
+next_form (settle ticket r) h = true_false (sym h)
+next_form (next r) h = (r, refl)
+next_form (hold n) h = true_false (sym h)
 
 -- a call of a logger that is not emptied is a next
-only-next : (b a : Bool) → T (b || a) → b ≡ false → a ≡ true
-only-next true a t e = true-false e
-only-next false true t e = refl
-only-next false false t e = absurd t
+only_next : (b a : Bool) → T (b || a) → b ≡ false → a ≡ true
+only_next true a t e = true_false e
+only_next false true t e = refl
+only_next false false t e = absurd t
 
-not-both : (b : Bool) → T b → b ≡ false → ⊥
-not-both true t e = true-false e
-not-both false t e = t
+not_both : (b : Bool) → T b → b ≡ false → ⊥
+not_both true t e = true_false e
+not_both false t e = t
 
-pub firing-is : (f : Firing) (j u s : ℕ) (action : Action) → f .slot ≡ j → f .due ≡ u → f .at ≡ s → f .action ≡ action
+pub firing_is : (f : Firing) (j u s : ℕ) (action : Action) → f.slot ≡ j → f.due ≡ u → f.at ≡ s → f.action ≡ action
     → f ≡ record { slot = j; due = u; at = s; action = action }
-firing-is f j u s action p q r t = λ i. record { slot = p i; due = q i; at = r i; action = t i }
+firing_is f j u s action p q r t = λ i. record { slot = p i; due = q i; at = r i; action = t i }
 
-pub next-same : {X : Type 0} {f g : Firing} → _≡_ {A = Event X} (next (Some f)) (next (Some g)) → f ≡ g
-next-same e = cc
+pub next_same : {X : Type 0} {f g : Firing} → ◌≡◌ {A = Event X} (next (Some f)) (next (Some g)) → f ≡ g
+next_same e = cc
 
 module _ {X : Type 0} {j : ℕ} {l : Log X} {es : List (Event X)} (c : Course j l es) where
   -- a next of the slot is a firing of the slot
   pub record Fired (q : ℕ) (f : Firing) : Type 0 where
-    pub comes-now : coming (s-at c q) j (slot-at c q) ≡ Some f
-    pub due : f .due ≤ s-at c q
-    pub slot : slot-at c (suc q) ≡ fired (slot-at c q)
+    pub comes_now : coming (s_at c q) j (slot_at c q) ≡ Some f
+    pub due : f.due ≤ s_at c q
+    pub slot : slot_at c (suc q) ≡ fired (slot_at c q)
 
-  pub fired-at : (q : ℕ) (f : Firing) → At es q (next (Some f)) → f .slot ≡ j → Fired q f
-  fired-at q f at own = by (c .change q (next (Some f)) at)
+  pub fired_at : (q : ℕ) (f : Firing) → At es q (next (Some f)) → f.slot ≡ j → Fired q f
+  fired_at q f at own = by (c.change q (next (Some f)) at)
     where
       by : ChangeAt c q (next (Some f)) → Fired q f
       by (same p r s slot other quiet) = absurd (other f refl own)
-      by (moves d x i grows slot) = no-next {e = serve d x (Ok (s-at c (suc q)))} refl (sym i)
-      by (starts job first given p r s free slot kind st empty) = none-some p
+      by (moves d x i grows slot) = no_next {e = serve d x (Ok (s_at c (suc q)))} refl (sym i)
+      by (starts job first given p r s free slot kind st empty) = none_some p
       by (ended p r s slot other) = absurd (other f refl)
       by (fires g i co due s slot) =
-          let fg : g ≡ f = sym (next-same i) in
+          let fg : g ≡ f = sym (next_same i) in
           record {
-            comes-now = co ∙ ap (λ (y : Firing). Some y) fg;
-            due = subst (λ (y : Firing). y .due ≤ s-at c q) fg due;
+            comes_now = co ∙ ap (λ (y : Firing). Some y) fg;
+            due = subst (λ (y : Firing). y.due ≤ s_at c q) fg due;
             slot = slot;
           }
 
@@ -83,186 +73,186 @@ module _ {X : Type 0} {j : ℕ} {l : Log X} {es : List (Event X)} (c : Course j 
     pub between : (k : ℕ) → n ≤ k → k < place → (f : Firing) × At es k (next (Some f))
 
   module _ (u s : ℕ) (action : Action) where
-    here : (n : ℕ) (f : Firing) → At es n (next (Some f)) → coming (s-at c n) j (slot-at c n) ≡ Some f → Promises (slot-at c n) action u → f .due ≡ u → s-at c n ≡ s
+    here : (n : ℕ) (f : Firing) → At es n (next (Some f)) → coming (s_at c n) j (slot_at c n) ≡ Some f → Promises (slot_at c n) action u → f.due ≡ u → s_at c n ≡ s
         → Coming n u s action
     here n f at co promised is-u is-s =
-        let g = comes (s-at c n) j (slot-at c n) action u promised in
-        let fg : g .0 ≡ f = some-same (sym (g .1) ∙ co) in
-        let act : f .action ≡ action = subst (λ (y : Firing). y .action ≡ action) fg (g .3) in
+        let g = comes (s_at c n) j (slot_at c n) action u promised in
+        let fg : g.0 ≡ f = some_same (sym g.1 ∙ co) in
+        let act : f.action ≡ action = subst (λ (y : Firing). y.action ≡ action) fg g.3 in
         record {
           place = n;
           low = omega arith;
           answer =
               at ∙ ap (λ (y : Firing). Some (next (Some y)))
-              (firing-is f j u s action (coming-slot (s-at c n) j (slot-at c n) f co) is-u (coming-at (s-at c n) j (slot-at c n) f co ∙ is-s) act);
+              (firing_is f j u s action (coming_slot (s_at c n) j (slot_at c n) f co) is-u (coming_at (s_at c n) j (slot_at c n) f co ∙ is-s) act);
           between = λ k low high. absurd (omega arith);
         }
 
     later : (n : ℕ) (f : Firing) → At es n (next (Some f)) → Coming (suc n) u s action → Coming n u s action
     later n f at found = record {
-      place = found .place;
-      low = omega (arith, found .low);
-      answer = found .answer;
-      between = λ k low high. by k high (cases-eq k n) low;
+      place = found.place;
+      low = omega (arith, found.low);
+      answer = found.answer;
+      between = λ k low high. by k high (cases_eq k n) low;
     }
       where
-        by : (k : ℕ) → k < found .place → (k ≡ n) ⊎ (k ≡ n → ⊥) → n ≤ k → (f : Firing) × At es k (next (Some f))
+        by : (k : ℕ) → k < found.place → (k ≡ n) ⊎ (k ≡ n → ⊥) → n ≤ k → (f : Firing) × At es k (next (Some f))
         by k high (inl e) low = (f, subst (λ m. At es m (next (Some f))) (sym e) at)
-        by k high (inr other) low = found .between k (omega arith) high
+        by k high (inr other) low = found.between k (omega arith) high
 
     abbrev On : ℕ → Type 0
-    On n = c .emptied n ≡ false → Promises (slot-at c n) action u → u ≤ s → s-at c n ≡ s → Coming n u s action
+    On n = c.emptied n ≡ false → Promises (slot_at c n) action u → u ≤ s → s_at c n ≡ s → Coming n u s action
 
     -- while the logger is not emptied and u is due, next answers, until it answers u
-    pub emptying : (fuel n : ℕ) → length es ≤ n + fuel → n ≤ length es → c .emptied n ≡ false → Promises (slot-at c n) action u → u ≤ s → s-at c n ≡ s
+    pub emptying : (fuel n : ℕ) → length es ≤ n + fuel → n ≤ length es → c.emptied n ≡ false → Promises (slot_at c n) action u → u ≤ s → s_at c n ≡ s
         → Coming n u s action
     emptying zero n far near b promised due is-s =
         let end : length es ≡ n = omega arith in
-        absurd (not-both (c .emptied n) (subst (λ k. T (c .emptied k)) end (c .over)) b)
-    emptying (suc fuel) n far near b promised due is-s = at-end (cases-lt n (length es)) (λ h. emptying fuel (suc n) (omega arith) h)
+        absurd (not_both (c.emptied n) (subst (λ k. T (c.emptied k)) end c.over) b)
+    emptying (suc fuel) n far near b promised due is-s = at_end (cases_lt n (length es)) (λ h. emptying fuel (suc n) (omega arith) h)
       where
         answered : (f : Firing) → At es n (next (Some f)) → On (suc n) → ChangeAt c n (next (Some f)) → Coming n u s action
         answered f at on (same p q t slot own quiet) =
-            later n f at (on (c .turns n (next (Some f)) at ∙ b) (rw slot promised) due (t ∙ is-s))
-        answered f at on (moves d x i grows slot) = no-next {e = serve d x (Ok (s-at c (suc n)))} refl (sym i)
-        answered f at on (starts job first given p q t free slot kind st empty) = none-some p
+            later n f at (on (c.turns n (next (Some f)) at ∙ b) (rw slot promised) due (t ∙ is-s))
+        answered f at on (moves d x i grows slot) = no_next {e = serve d x (Ok (s_at c (suc n)))} refl (sym i)
+        answered f at on (starts job first given p q t free slot kind st empty) = none_some p
         answered f at on (ended p q t slot own) = absurd (own f refl)
-        answered f at on (fires g i co soon t slot) = by (cases-eq (g .due) u)
+        answered f at on (fires g i co soon t slot) = by (cases_eq g.due u)
           where
-            by : (g .due ≡ u) ⊎ (g .due ≡ u → ⊥) → Coming n u s action
+            by : (g.due ≡ u) ⊎ (g.due ≡ u → ⊥) → Coming n u s action
             by (inl e) = here n g (at ∙ ap (λ (y : Event X). Some y) i) co promised e is-s
             by (inr other) =
                 later n f at
-                (on (c .turns n (next (Some f)) at ∙ b) (rw slot (fired-keeps (s-at c n) j (slot-at c n) action u g promised co other)) due (t ∙ is-s))
+                (on (c.turns n (next (Some f)) at ∙ b) (rw slot (fired_keeps (s_at c n) j (slot_at c n) action u g promised co other)) due (t ∙ is-s))
 
         none : At es n (next None) → ChangeAt c n (next None) → Coming n u s action
         none at (same p q t slot own quiet) =
-            let g = comes (s-at c n) j (slot-at c n) action u promised in
-            absurd (omega (arith, quiet refl (g .0) (g .1), g .2))
-        none at (moves d x i grows slot) = no-next {e = serve d x (Ok (s-at c (suc n)))} refl (sym i)
-        none at (starts job first given p q t free slot kind st empty) = none-some p
-        none at (ended p q t slot own) = true-false (sym q)
-        none at (fires g i co soon t slot) = let z : _≡_ {A = ℕ} 0 1 = cc in absurd (omega arith)
+            let g = comes (s_at c n) j (slot_at c n) action u promised in
+            absurd (omega (arith, quiet refl g.0 g.1, g.2))
+        none at (moves d x i grows slot) = no_next {e = serve d x (Ok (s_at c (suc n)))} refl (sym i)
+        none at (starts job first given p q t free slot kind st empty) = none_some p
+        none at (ended p q t slot own) = true_false (sym q)
+        none at (fires g i co soon t slot) = let z : ◌≡◌ {A = ℕ} 0 1 = cc in absurd (omega arith)
 
-        by-answer : (r : Option Firing) → At es n (next r) → On (suc n) → Coming n u s action
-        by-answer None at on = none at (c .change n (next None) at)
-        by-answer (Some f) at on = answered f at on (c .change n (next (Some f)) at)
+        by_answer : (r : Option Firing) → At es n (next r) → On (suc n) → Coming n u s action
+        by_answer None at on = none at (c.change n (next None) at)
+        by_answer (Some f) at on = answered f at on (c.change n (next (Some f)) at)
 
-        at-end : (n < length es) ⊎ (length es ≤ n) → (suc n ≤ length es → On (suc n)) → Coming n u s action
-        at-end (inl h) on =
+        at_end : (n < length es) ⊎ (length es ≤ n) → (suc n ≤ length es → On (suc n)) → Coming n u s action
+        at_end (inl h) on =
             let e = there es n h in
-            let form = next-form (e .0) (only-next (c .emptied n) (is-next (e .0)) (c .calm n (e .0) (e .1)) b) in
-            by-answer (form .0) (e .1 ∙ ap (λ (y : Event X). Some y) (form .1)) (on h)
-        at-end (inr h) on =
+            let form = next_form e.0 (only_next (c.emptied n) (is_next e.0) (c.calm n e.0 e.1) b) in
+            by_answer form.0 (e.1 ∙ ap (λ (y : Event X). Some y) form.1) (on h)
+        at_end (inr h) on =
             let end : length es ≡ n = omega arith in
-            absurd (not-both (c .emptied n) (subst (λ k. T (c .emptied k)) end (c .over)) b)
+            absurd (not_both (c.emptied n) (subst (λ k. T (c.emptied k)) end c.over) b)
 
   -- a due moment reached is reported at the moment after the event that reached it
   pub record Told (i p u : ℕ) (action : Action) : Type 0 where
     pub place : ℕ
-    pub report : ReportedAt j es i u action place (s-at c (suc p))
+    pub report : ReportedAt j es i u action place (s_at c (suc p))
     pub first : FirstEmptying es p place
 
-  module _ (i p first u : ℕ) (job : Job) (set : SetUpAt j es i job first) (due : DueMoment (job .kind) first u) (reached : ReachedBy j es (l .moment) i u p) where
-    pub base : Promises (slot-at c (suc i)) (job .action) u
+  module _ (i p first u : ℕ) (job : Job) (set : SetUpAt j es i job first) (due : DueMoment job.kind first u) (reached : ReachedBy j es l.moment i u p) where
+    pub base : Promises (slot_at c (suc i)) job.action u
     base =
         let w = stood c i first job set in
-        rw (w .slot) (subst (λ k. DueMoment k first u) (sym (w .kind)) due, refl)
+        rw w.slot (subst (λ k. DueMoment k first u) (sym w.kind) due, refl)
 
-    come : u ≤ s-at c (suc p)
-    come = omega (arith, reached .reached, moment-before c p)
+    come : u ≤ s_at c (suc p)
+    come = omega (arith, reached.reached, moment_before c p)
 
-    no-set-up : (q : ℕ) → ((k : ℕ) → p < k → k < q → (f : Firing) × At es k (next (Some f))) → NoSetUp j es i q
-    no-set-up q between k e low high at = by (cases-lt p k)
+    no_set_up : (q : ℕ) → ((k : ℕ) → p < k → k < q → (f : Firing) × At es k (next (Some f))) → NoSetUp j es i q
+    no_set_up q between k e low high at = by (cases_lt p k)
       where
         by : (p < k) ⊎ (k ≤ p) → sets j e ≡ None
         by (inl h) =
             let f = between k h high in
-            let same-e : e ≡ next (Some (f .0)) = some-same (sym at ∙ f .1) in
-            ap (λ (y : Event X). sets j y) same-e
-        by (inr h) = kept-slot c i p u (job .action) base (not-reached c i u p reached) (reached .stood) (reached .within) k e low h at
+            let same_e : e ≡ next (Some f.0) = some_same (sym at ∙ f.1) in
+            ap (λ (y : Event X). sets j y) same_e
+        by (inr h) = kept_slot c i p u job.action base (not_reached c i u p reached) reached.stood reached.within k e low h at
 
-    told-from : c .emptied (suc p) ≡ false → Promises (slot-at c (suc p)) (job .action) u → Told i p u (job .action)
-    told-from empty promised =
-        let found = emptying u (s-at c (suc p)) (job .action) (length es) (suc p) (omega arith) (reached .within) empty promised come refl in
+    told_from : c.emptied (suc p) ≡ false → Promises (slot_at c (suc p)) job.action u → Told i p u job.action
+    told_from empty promised =
+        let found = emptying u (s_at c (suc p)) job.action (length es) (suc p) (omega arith) reached.within empty promised come refl in
         record {
-          place = found .place;
+          place = found.place;
           report = record {
-            after = omega (arith, found .low, reached .from);
-            answer = found .answer;
-            own = no-set-up (found .place) (λ k low high. found .between k low high);
+            after = omega (arith, found.low, reached.from);
+            answer = found.answer;
+            own = no_set_up found.place (λ k low high. found.between k low high);
           };
-          first = (found .low, λ k low high. found .between k low high);
+          first = (found.low, λ k low high. found.between k low high);
         }
 
-    pub told : Told i p u (job .action)
-    told = by (cases-eq p i)
+    pub told : Told i p u job.action
+    told = by (cases_eq p i)
       where
-        moved-on : i < p → (e : Event X) → At es p e → ChangeAt c p e → Told i p u (job .action)
-        moved-on low e at (same a b t slot own quiet) = absurd (omega (arith, come, not-reached c i u p reached p low (omega arith)))
-        moved-on low e at (moves d x m grows slot) =
-            told-from (c .turns p e at ∙ ap (λ (y : Event X). emptied-by (c .emptied p) y) m)
-            (rw slot (stands c i p u (job .action) base (not-reached c i u p reached) (reached .stood) (reached .within) p low (omega arith)))
-        moved-on low e at (starts job first given a b t free slot kind st empty) = absurd (omega (arith, come, not-reached c i u p reached p low (omega arith)))
-        moved-on low e at (ended a b t slot own) = absurd (omega (arith, come, not-reached c i u p reached p low (omega arith)))
-        moved-on low e at (fires f m co soon t slot) = absurd (omega (arith, come, not-reached c i u p reached p low (omega arith)))
+        moved_on : i < p → (e : Event X) → At es p e → ChangeAt c p e → Told i p u job.action
+        moved_on low e at (same a b t slot own quiet) = absurd (omega (arith, come, not_reached c i u p reached p low (omega arith)))
+        moved_on low e at (moves d x m grows slot) =
+            told_from (c.turns p e at ∙ ap (λ (y : Event X). emptied_by (c.emptied p) y) m)
+            (rw slot (stands c i p u job.action base (not_reached c i u p reached) reached.stood reached.within p low (omega arith)))
+        moved_on low e at (starts job first given a b t free slot kind st empty) = absurd (omega (arith, come, not_reached c i u p reached p low (omega arith)))
+        moved_on low e at (ended a b t slot own) = absurd (omega (arith, come, not_reached c i u p reached p low (omega arith)))
+        moved_on low e at (fires f m co soon t slot) = absurd (omega (arith, come, not_reached c i u p reached p low (omega arith)))
 
-        by : (p ≡ i) ⊎ (p ≡ i → ⊥) → Told i p u (job .action)
+        by : (p ≡ i) ⊎ (p ≡ i → ⊥) → Told i p u job.action
         by (inl e) =
-            told-from (subst (λ k. c .emptied (suc k) ≡ false) (sym e) (stood c i first job set .empty))
-            (subst (λ k. Promises (slot-at c (suc k)) (job .action) u) (sym e) base)
+            told_from (subst (λ k. c.emptied (suc k) ≡ false) (sym e) (stood c i first job set).empty)
+            (subst (λ k. Promises (slot_at c (suc k)) job.action u) (sym e) base)
         by (inr other) =
-            let low : i < p = omega (arith, reached .from) in
-            let e = there es p (reached .within) in
-            moved-on low (e .0) (e .1) (c .change p (e .0) (e .1))
+            let low : i < p = omega (arith, reached.from) in
+            let e = there es p reached.within in
+            moved_on low e.0 e.1 (c.change p e.0 e.1)
 
-  pub complete : Complete (l .moment) j es
+  pub complete : Complete l.moment j es
   complete i p first u job set due reached =
-      let t = told i p first u job set due reached in (t .place, s-at c (suc p), t .report, t .first)
+      let t = told i p first u job set due reached in (t.place, s_at c (suc p), t.report, t.first)
 
   -- ---- once only
   -- after a report, what the slot has to come is later, until it is set up anew
-  module _ (q : ℕ) (f : Firing) (reports : At es q (next (Some f))) (own : f .slot ≡ j) where
+  module _ (q : ℕ) (f : Firing) (reports : At es q (next (Some f))) (own : f.slot ≡ j) where
     abbrev Later : ℕ → Type 0
-    Later n = (s : ℕ) (g : Firing) → coming s j (slot-at c n) ≡ Some g → f .due < g .due
+    Later n = (s : ℕ) (g : Firing) → coming s j (slot_at c n) ≡ Some g → f.due < g.due
 
-    later-same : (n m : ℕ) → slot-at c m ≡ slot-at c n → Later n → Later m
-    later-same n m e before s g co = before s g (rw e at co)
+    later_same : (n m : ℕ) → slot_at c m ≡ slot_at c n → Later n → Later m
+    later_same n m e before s g co = before s g (rw e at co)
 
-    later-first : Later (suc q)
-    later-first s g co =
-        let w = fired-at q f reports own in
-        let st : SteadySlot (slot-at c q) = steady c q (omega (arith, within es q (next (Some f)) reports)) in
-        fired-later (s-at c q) s j (slot-at c q) f g st (w .comes-now) (rw (w .slot) at co)
+    later_first : Later (suc q)
+    later_first s g co =
+        let w = fired_at q f reports own in
+        let st : SteadySlot (slot_at c q) = steady c q (omega (arith, within es q (next (Some f)) reports)) in
+        fired_later (s_at c q) s j (slot_at c q) f g st w.comes_now (rw w.slot at co)
 
-    later-next : (n : ℕ) (e : Event X) → n ≤ length es → sets j e ≡ None → Later n → ChangeAt c n e → Later (suc n)
-    later-next n e near none before (same a b t slot other quiet) = later-same n (suc n) slot before
-    later-next n e near none before (moves d x m grows slot) = later-same n (suc n) slot before
-    later-next n e near none before (starts job first given a b t free slot kind st empty) = some-none (sym a ∙ none)
-    later-next n e near none before (ended a b t slot other) = λ s g co. none-some (rw slot at co)
-    later-next n e near none before (fires h m co soon t slot) = λ s g co′.
-        omega (arith, before (s-at c n) h co, fired-later (s-at c n) s j (slot-at c n) h g (steady c n near) co (rw slot at co′))
+    later_next : (n : ℕ) (e : Event X) → n ≤ length es → sets j e ≡ None → Later n → ChangeAt c n e → Later (suc n)
+    later_next n e near none before (same a b t slot other quiet) = later_same n (suc n) slot before
+    later_next n e near none before (moves d x m grows slot) = later_same n (suc n) slot before
+    later_next n e near none before (starts job first given a b t free slot kind st empty) = some_none (sym a ∙ none)
+    later_next n e near none before (ended a b t slot other) = λ s g co. none_some (rw slot at co)
+    later_next n e near none before (fires h m co soon t slot) = λ s g co'.
+        omega (arith, before (s_at c n) h co, fired_later (s_at c n) s j (slot_at c n) h g (steady c n near) co (rw slot at co'))
 
-    always-later : (q′ : ℕ) → q′ ≤ length es → NoSetUp j es q q′ → (n : ℕ) → q < n → n ≤ q′ → Later n
-    always-later q′ near none zero low high = absurd (omega arith)
-    always-later q′ near none (suc n) low high = by (cases-eq n q) (λ h. always-later q′ near none n h (omega arith))
+    always_later : (q' : ℕ) → q' ≤ length es → NoSetUp j es q q' → (n : ℕ) → q < n → n ≤ q' → Later n
+    always_later q' near none zero low high = absurd (omega arith)
+    always_later q' near none (suc n) low high = by (cases_eq n q) (λ h. always_later q' near none n h (omega arith))
       where
         by : (n ≡ q) ⊎ (n ≡ q → ⊥) → (q < n → Later n) → Later (suc n)
-        by (inl e) before = subst (λ k. Later (suc k)) (sym e) later-first
+        by (inl e) before = subst (λ k. Later (suc k)) (sym e) later_first
         by (inr other) before =
-            let low′ : q < n = omega arith in
+            let low' : q < n = omega arith in
             let e = there es n (omega arith) in
-            later-next n (e .0) (omega arith) (none n (e .0) low′ (omega arith) (e .1)) (before low′) (c .change n (e .0) (e .1))
+            later_next n e.0 (omega arith) (none n e.0 low' (omega arith) e.1) (before low') (c.change n e.0 e.1)
 
-    pub no-second : (q′ : ℕ) (g : Firing) → At es q′ (next (Some g)) → g .slot ≡ j → q < q′ → NoSetUp j es q q′ → f .due ≡ g .due → ⊥
-    no-second q′ g at′ own′ low none e =
-        let w = fired-at q′ g at′ own′ in
-        omega (arith, always-later q′ (omega (arith, within es q′ (next (Some g)) at′)) none q′ low (omega arith) (s-at c q′) g (w .comes-now))
+    pub no_second : (q' : ℕ) (g : Firing) → At es q' (next (Some g)) → g.slot ≡ j → q < q' → NoSetUp j es q q' → f.due ≡ g.due → ⊥
+    no_second q' g at' own' low none e =
+        let w = fired_at q' g at' own' in
+        omega (arith, always_later q' (omega (arith, within es q' (next (Some g)) at')) none q' low (omega arith) (s_at c q') g w.comes_now)
 
-  pub unrepeated : Unrepeated (l .moment) j es
-  unrepeated i first u q s q′ s′ job set r r′ = by (cases-order q q′)
+  pub unrepeated : Unrepeated l.moment j es
+  unrepeated i first u q s q' s' job set r r' = by (cases_order q q')
     where
-      by : (q ≡ q′) ⊎ ((q < q′) ⊎ (q′ < q)) → q ≡ q′
+      by : (q ≡ q') ⊎ ((q < q') ⊎ (q' < q)) → q ≡ q'
       by (inl e) = e
-      by (inr (inl h)) = absurd (no-second q _ (r .answer) refl q′ _ (r′ .answer) refl h (λ k e low high at. r′ .own k e (omega (arith, r .after)) high at) refl)
-      by (inr (inr h)) = absurd (no-second q′ _ (r′ .answer) refl q _ (r .answer) refl h (λ k e low high at. r .own k e (omega (arith, r′ .after)) high at) refl)
+      by (inr (inl h)) = absurd (no_second q _ r.answer refl q' _ r'.answer refl h (λ k e low high at. r'.own k e (omega (arith, r.after)) high at) refl)
+      by (inr (inr h)) = absurd (no_second q' _ r'.answer refl q _ r.answer refl h (λ k e low high at. r.own k e (omega (arith, r'.after)) high at) refl)

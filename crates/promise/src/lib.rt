@@ -1,16 +1,16 @@
 // The promise about two loggers, on the call that answers whether two loggers start alike.
-ghost use mathlib.Core.Path.{_≡_};
-ghost use lib.Dec.{T};
-ghost use Rattle·logger.specs.State.{view};
-ghost use Rattle·promise·specs.Example.{Occurring};
-ghost use Rattle·promise·specs.Promise.{all-free, starts-alike, Alike};
+ghost use Rattle.std.specs.Prelude.{◌≡◌, T};
+ghost use Rattle.logger.specs.State.{view};
+ghost use Rattle.promise.specs.Example.{Occurring};
+ghost use Rattle.promise.specs.Promise.{all_free, starts_alike, Alike};
+
 use clock::alarm::Alarm;
 use jobs::Slot;
 use logger::logger::Logger;
 
 // Whether no slot of the table holds a job or waits for a ticket.
 fn all_free(slots: &[Slot]) -> bool
-    ensures { λ r. ⌜ r ≡ all-free (now (slots .entry)) ⌝ }
+    ensures { result ≡ all_free slots.now }
 {
     for slot in slots {
         match *slot {
@@ -24,9 +24,9 @@ fn all_free(slots: &[Slot]) -> bool
 // Whether every slot of both loggers is free and their moments are equal, as of two fresh loggers with one start.
 // Two such loggers keep the promise, whatever stacks they stand on; and there are runs that it speaks of.
 pub fn start_alike<C: Alarm, D: Alarm>(a: &Logger<C>, b: &Logger<D>) -> bool
-    ensures answer { λ r. ⌜ r ≡ starts-alike (view (C·Clock .meaning) (now (a .entry))) (view (D·Clock .meaning) (now (b .entry))) ⌝ }
-    ensures promise { λ r. ⌜ (T r → Alike (view (C·Clock .meaning) (now (a .entry))) (view (D·Clock .meaning) (now (b .entry)))) ⌝ }
-    ensures occurs { λ _. ⌜ Occurring ⌝ }
+    ensures answer { result ≡ starts_alike (view C.Clock.meaning a.now) (view D.Clock.meaning b.now) }
+    ensures promise { T result → Alike (view C.Clock.meaning a.now) (view D.Clock.meaning b.now) }
+    ensures occurs { Occurring }
 {
     let free = all_free(a.slots()) && all_free(b.slots());
     free && a.moment() == b.moment()

@@ -1,46 +1,40 @@
 -- The order of due records: what less means, and that ties are the same record. Assumes nothing.
-use mathlib.Core.Path.{_≡_, refl, sym, ap}
-use mathlib.Core.Bool.{true, false, true≢false}
-use mathlib.Core.Logic.{_⊎_, inl, inr}
-use Prim.Native.Nat.{ℕ, _<_}
-use native.Mathlib.Omega.{arith}
-use Rattle·std.specs.Keys.{rank, ranks}
-use Rattle·std.specs.Orderings.{isLt, isEq, isGt, thenBy, Ranked}
-use Rattle·std.specs.declared.cmp.Ordering.{Ordering}
-use Rattle·std.specs.declared.cmp.Ordering.the-variants.{Less, Equal, Greater}
-use Rattle·queue·specs.declared.dues.Due.{Due}
-use Rattle·queue·specs.Due.{due-compare, due-order, Earlier}
-use Rattle·queue·specs.Order.{Strict}
+use Rattle.std.proofs.Common.{◌≡◌, ℕ, ◌<◌, true, false, ◌⊎◌, Ordering, Less, Equal, Greater, sym, refl, ap, inl, inr, true≢false, arith}
+use Rattle.std.specs.Cmp.{ranks}
+use Rattle.std.specs.Ordering.{is_lt, is_eq, is_gt, ordering_then, MatchOrdering, nat_cmp}
+use Rattle.queue.specs.declared.dues.Due.{Due}
+use Rattle.queue.specs.Due.{due_compare, due_order, Earlier}
+use Rattle.queue.specs.Order.{Strict}
 
 module _ (x y : Due) where
-  earlier-by : (a b : Ordering) → Ranked a (x .moment < y .moment) (x .moment ≡ y .moment) (y .moment < x .moment) → Ranked b (x .slot < y .slot) (x .slot ≡ y .slot) (y .slot < x .slot) → isLt (thenBy a b) ≡ true → Earlier x y
-  earlier-by Less b p q h = inl p
-  earlier-by Equal Less p q h = inr (p, q)
-  earlier-by Equal Equal p q h = absurd (true≢false (sym h))
-  earlier-by Equal Greater p q h = absurd (true≢false (sym h))
-  earlier-by Greater b p q h = absurd (true≢false (sym h))
+  earlier_by : (a b : Ordering) → MatchOrdering a (x.moment < y.moment) (x.moment ≡ y.moment) (y.moment < x.moment) → MatchOrdering b (x.slot < y.slot) (x.slot ≡ y.slot) (y.slot < x.slot) → is_lt (ordering_then a b) ≡ true → Earlier x y
+  earlier_by Less b p q h = inl p
+  earlier_by Equal Less p q h = inr (p, q)
+  earlier_by Equal Equal p q h = absurd (true≢false (sym h))
+  earlier_by Equal Greater p q h = absurd (true≢false (sym h))
+  earlier_by Greater b p q h = absurd (true≢false (sym h))
 
-  less-by : (a b : Ordering) → Ranked a (x .moment < y .moment) (x .moment ≡ y .moment) (y .moment < x .moment) → Ranked b (x .slot < y .slot) (x .slot ≡ y .slot) (y .slot < x .slot) → Earlier x y → isLt (thenBy a b) ≡ true
-  less-by Less b p q h = refl
-  less-by Equal b p q (inl h) = absurd (omega arith)
-  less-by Equal Less p q (inr h) = refl
-  less-by Equal Equal p q (inr h) = absurd (omega arith)
-  less-by Equal Greater p q (inr h) = absurd (omega arith)
-  less-by Greater b p q (inl h) = absurd (omega arith)
-  less-by Greater b p q (inr h) = absurd (omega arith)
+  less_by : (a b : Ordering) → MatchOrdering a (x.moment < y.moment) (x.moment ≡ y.moment) (y.moment < x.moment) → MatchOrdering b (x.slot < y.slot) (x.slot ≡ y.slot) (y.slot < x.slot) → Earlier x y → is_lt (ordering_then a b) ≡ true
+  less_by Less b p q h = refl
+  less_by Equal b p q (inl h) = absurd (omega arith)
+  less_by Equal Less p q (inr h) = refl
+  less_by Equal Equal p q (inr h) = absurd (omega arith)
+  less_by Equal Greater p q (inr h) = absurd (omega arith)
+  less_by Greater b p q (inl h) = absurd (omega arith)
+  less_by Greater b p q (inr h) = absurd (omega arith)
 
-  same-by : (a b : Ordering) → Ranked a (x .moment < y .moment) (x .moment ≡ y .moment) (y .moment < x .moment) → Ranked b (x .slot < y .slot) (x .slot ≡ y .slot) (y .slot < x .slot) → thenBy a b ≡ Equal → x ≡ y
-  same-by Less b p q h = absurd (true≢false (ap isLt h))
-  same-by Equal Less p q h = absurd (true≢false (ap isLt h))
-  same-by Equal Equal p q h = λ i. record { moment = p i; slot = q i }
-  same-by Equal Greater p q h = absurd (true≢false (ap isGt h))
-  same-by Greater b p q h = absurd (true≢false (ap isGt h))
+  same_by : (a b : Ordering) → MatchOrdering a (x.moment < y.moment) (x.moment ≡ y.moment) (y.moment < x.moment) → MatchOrdering b (x.slot < y.slot) (x.slot ≡ y.slot) (y.slot < x.slot) → ordering_then a b ≡ Equal → x ≡ y
+  same_by Less b p q h = absurd (true≢false (ap is_lt h))
+  same_by Equal Less p q h = absurd (true≢false (ap is_lt h))
+  same_by Equal Equal p q h = λ i. record { moment = p i; slot = q i }
+  same_by Equal Greater p q h = absurd (true≢false (ap is_gt h))
+  same_by Greater b p q h = absurd (true≢false (ap is_gt h))
 
-  pub earlier-from-less : isLt (due-compare x y) ≡ true → Earlier x y
-  earlier-from-less = earlier-by (rank (x .moment) (y .moment)) (rank (x .slot) (y .slot)) (ranks (x .moment) (y .moment)) (ranks (x .slot) (y .slot))
+  pub earlier_from_less : is_lt (due_compare x y) ≡ true → Earlier x y
+  earlier_from_less = earlier_by (nat_cmp x.moment y.moment) (nat_cmp x.slot y.slot) (ranks x.moment y.moment) (ranks x.slot y.slot)
 
-  pub less-from-earlier : Earlier x y → isLt (due-compare x y) ≡ true
-  less-from-earlier = less-by (rank (x .moment) (y .moment)) (rank (x .slot) (y .slot)) (ranks (x .moment) (y .moment)) (ranks (x .slot) (y .slot))
+  pub less_from_earlier : Earlier x y → is_lt (due_compare x y) ≡ true
+  less_from_earlier = less_by (nat_cmp x.moment y.moment) (nat_cmp x.slot y.slot) (ranks x.moment y.moment) (ranks x.slot y.slot)
 
-pub due-strict : Strict due-order
-due-strict x y = same-by x y (rank (x .moment) (y .moment)) (rank (x .slot) (y .slot)) (ranks (x .moment) (y .moment)) (ranks (x .slot) (y .slot))
+pub due_strict : Strict due_order
+due_strict x y = same_by x y (nat_cmp x.moment y.moment) (nat_cmp x.slot y.slot) (ranks x.moment y.moment) (ranks x.slot y.slot)

@@ -1,11 +1,12 @@
 // When a slot is next due, as the queue keeps it.
-ghost use mathlib.Core.Path.{_≡_};
-ghost use mathlib.Core.Bool.{true};
-ghost use Rattle·std.specs.Keys.{Total};
-ghost use Rattle·std.specs.Orderings.{Decides};
-ghost use Rattle·std.specs.declared.option.Option.the-variants.{Some};
-ghost use Rattle·queue·specs.Due.{due-compare, due-orders, due-order, Earlier};
-ghost use Rattle·queue·specs.Order.{Strict};
+ghost use Rattle.std.specs.Prelude.{◌≡◌, true, Some, Decides, refl};
+ghost use Rattle.std.specs.Cmp.{IsTotalOrder, partial_order_from_agreeing_total};
+ghost use Rattle.std.specs.Ordering.{nat_cmp, on, then_cmp};
+ghost use Rattle.queue.specs.Due.{due_compare, due_orders, due_order, Earlier};
+ghost use Rattle.queue.specs.Order.{Strict};
+ghost use Rattle.std.specs.Cmp.Rules.{comparing};
+ghost use Rattle.std.proofs.Common.{rules};
+
 use std::cmp::Ordering;
 
 #[derive(Clone, Copy, PartialEq, Eq, Debug)]
@@ -15,8 +16,14 @@ pub struct Due {
 }
 
 // By moment, and the lower slot on a tie.
-pub impl Ord for Due as DueOrd {
-    ghost orders = { due-orders };
+impl Ord for Due {
+    ghost cmp = { then_cmp (on (λ v. v.moment) nat_cmp) (on (λ v. v.slot) nat_cmp) };
+
+    ghost total = { Prim.search (comparing, rules) };
+
+    ghost matches_partial_cmp = { Prim.search (comparing, rules) };
+
+    ghost matches_eq = { Prim.search (comparing, rules) };
 
     fn cmp(&self, other: &Due) -> Ordering {
         self.moment
@@ -25,8 +32,10 @@ pub impl Ord for Due as DueOrd {
     }
 }
 
-pub impl PartialOrd<Due> for Due as DuePartialOrd {
-    ghost compares = { λ x y r. r ≡ Some (due-compare x y) };
+impl PartialOrd for Due {
+    ghost partial_cmp = { λ x y. Some (due_compare x y) };
+
+    ghost laws = { partial_order_from_agreeing_total (λ x y. due_compare x y) (Prim.search (comparing, rules)) (λ _ _. refl) (Prim.search (comparing, rules)) };
 
     fn partial_cmp(&self, other: &Due) -> Option<Ordering> {
         Some(self.cmp(other))
@@ -36,7 +45,7 @@ pub impl PartialOrd<Due> for Due as DuePartialOrd {
 impl Due {
     // Whether this one comes before the other.
     pub fn is_before(&self, other: &Due) -> bool
-        ensures { λ r. ⌜ Decides r (Earlier (now (self .entry)) (now (other .entry))) ⌝ }
+        ensures { Decides result (Earlier self.now other.now) }
     {
         self.cmp(other).is_lt()
     }
@@ -44,9 +53,9 @@ impl Due {
 
 // What a queue of due records rests on: their order is total, and ties are the same record.
 pub fn order_is_total() -> bool
-    ensures answer { λ r. ⌜ r ≡ true ⌝ }
-    ensures total { λ _. ⌜ Total due-orders ⌝ }
-    ensures strict { λ _. ⌜ Strict due-order ⌝ }
+    ensures answer { result ≡ true }
+    ensures total { IsTotalOrder due_orders }
+    ensures strict { Strict due_order }
 {
     true
 }

@@ -1,3 +1,4 @@
 -- A slower clock: its setting, and what it makes of the clock below.
 pub mod Ratio
 pub mod Rate
+pub mod Rated

@@ -1,13 +1,9 @@
 -- The setting of a rate: a ratio outside its limits is refused.
 -- Assumes nothing.
-use mathlib.Core.Bool.{_&&_, cond}
-use Prim.Native.Nat.{ℕ}
-use lib.Dec.{leb}
-use Rattle·std.specs.declared.result.Result.{Result}
-use Rattle·std.specs.declared.result.Result.the-variants.{Ok, Err}
-use Rattle·fault.specs.declared.Fault.{Fault}
-use Rattle·fault.specs.Table.{bad-setting}
+use Rattle.std.specs.Prelude.{ℕ, cond, ◌&&◌, Ok, Err, Result, nat_le}
+use Rattle.fault.specs.declared.Fault.{Fault}
+use Rattle.fault.specs.Table.{bad_setting}
 
 -- gains of the clock above, and ticks of the clock below: 1 ≤ gains ≤ ticks ≤ 4096
-abbrev pub ratio-made : ℕ → ℕ → Result (ℕ × ℕ) Fault
-ratio-made gains ticks = cond (leb 1 gains && (leb gains ticks && leb ticks 4096)) (Ok (gains, ticks)) (Err bad-setting)
+abbrev pub ratio_made : ℕ → ℕ → Result (ℕ × ℕ) Fault
+ratio_made gains ticks = cond (nat_le 1 gains && (nat_le gains ticks && nat_le ticks 4096)) (Ok (gains, ticks)) (Err bad_setting)

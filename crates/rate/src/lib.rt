@@ -3,6 +3,4 @@ mod rate;
 mod ratio;
 
 pub use rate::Rate;
-pub use rate::RateAlarm;
-pub use rate::RateClock;
 pub use ratio::Ratio;

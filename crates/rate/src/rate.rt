@@ -2,16 +2,17 @@
 //
 // What is left of each division is carried on, so that the gain over many takes is that of one take. Two rates, one above
 // the other, round twice: they are not the one rate with their product.
-ghost use mathlib.Core.Path.{_≡_};
-ghost use Prim.Native.Nat.{_+_, _*_, _/_, _%_, _^_, _<_, _≤_};
-ghost use Rattle·clock.specs.Appointment.{after-take};
-ghost use Rattle·clock.specs.Hold.{wait-for};
-ghost use Rattle·clock.specs.Kept.{within};
-ghost use Rattle·rate·specs.Rate.{rate-meaning};
-ghost use Rattle·clock.specs.declared.appointment.Appointment.the-variants.{Idle};
+ghost use Rattle.std.specs.Prelude.{◌≡◌, ◌+◌, ◌*◌, ◌/◌, ◌%◌, ◌^◌, ◌<◌, ◌≤◌};
+ghost use Rattle.clock.specs.Appointment.{after_take};
+ghost use Rattle.clock.specs.Hold.{wait_for};
+ghost use Rattle.clock.specs.Kept.{within};
+ghost use Rattle.rate.specs.Rate.{rate_meaning};
+ghost use Rattle.clock.specs.declared.appointment.Appointment.TheVariants.{Idle};
+ghost use Rattle.rate.specs.Rated.{rate_lawful};
+ghost use Rattle.std.proofs.Common.{rules, arith};
+
 use crate::ratio::Ratio;
-use clock::alarm::Alarm;
-use clock::alarm::Clock;
+use clock::alarm::{Alarm, Clock};
 use clock::appointment::Appointment;
 use clock::kept::Kept;
 use clock::wait::ticks_until;
@@ -27,14 +28,14 @@ pub struct Rate<A: Alarm> {
     // the ticks gained so far: the reading is its low bits, as many as the clock below has
     count: u64,
     kept: Kept,
-    ghost small: { remainder < ratio .ticks },
+    ghost small: { remainder < ratio.ticks },
 }
 
 impl<A: Alarm> Rate<A> {
     // An idle layer with the reading 0 and no remainder.
     pub fn new(below: A, ratio: Ratio) -> Rate<A>
-        ensures clock { λ r. ⌜ rate-meaning (A·Clock .meaning (r .below)) (r .ratio .gains) (r .ratio .ticks) (r .remainder) (r .count) ≡ rate-meaning (A·Clock .meaning below) (ratio .gains) (ratio .ticks) 0 0 ⌝ }
-        ensures appointment { λ r. ⌜ within (A·Clock .meaning (r .below) .width) (r .kept .appointment) ≡ Idle ⌝ }
+        ensures clock { rate_meaning (A.Clock.meaning result.below) result.ratio.gains result.ratio.ticks result.remainder result.count ≡ rate_meaning (A.Clock.meaning below) ratio.gains ratio.ticks 0 0 }
+        ensures appointment { within (A.Clock.meaning result.below).width result.kept.appointment ≡ Idle }
     {
         Rate {
             below,
@@ -47,21 +48,21 @@ impl<A: Alarm> Rate<A> {
 
     // What ticks below bring, with what was left over, in parts of a tick.
     fn parts(&self, ticks: u64) -> u64
-        requires { ⌜ ticks < 2 ^ 32 ⌝ }
-        ensures { λ r. ⌜ r ≡ now (self .entry) .remainder + now (self .entry) .ratio .gains * ticks ⌝ }
+        requires { ticks < 2 ^ 32 }
+        ensures { result ≡ self.now.remainder + self.now.ratio.gains * ticks }
     {
         self.remainder + self.ratio.gains * ticks
     }
 
     // Moves the layer's own parts on by ticks below; answers the ticks of its own.
     fn follow(&mut self, width: Width, from: u64, ticks: u64) -> u64
-        requires { ⌜ ticks < 2 ^ 32 ⌝ }
-        ensures gained { λ r. ⌜ r ≡ (now (self .entry) .remainder + now (self .entry) .ratio .gains * ticks) / now (self .entry) .ratio .ticks ⌝ }
-        ensures below { λ _. ⌜ now (self .exit) .below ≡ now (self .entry) .below ⌝ }
-        ensures ratio { λ _. ⌜ now (self .exit) .ratio ≡ now (self .entry) .ratio ⌝ }
-        ensures remainder { λ _. ⌜ now (self .exit) .remainder ≡ (now (self .entry) .remainder + now (self .entry) .ratio .gains * ticks) % now (self .entry) .ratio .ticks ⌝ }
-        ensures count { λ r. ⌜ now (self .exit) .count ≡ (now (self .entry) .count + r) % 2 ^ 64 ⌝ }
-        ensures kept { λ r. ⌜ within (width .bits) (now (self .exit) .kept .appointment) ≡ after-take (width .bits) from r (within (width .bits) (now (self .entry) .kept .appointment)) ⌝ }
+        requires { ticks < 2 ^ 32 }
+        ensures gained { result ≡ (self.old.remainder + self.old.ratio.gains * ticks) / self.old.ratio.ticks }
+        ensures below { self.new.below ≡ self.old.below }
+        ensures ratio { self.new.ratio ≡ self.old.ratio }
+        ensures remainder { self.new.remainder ≡ (self.old.remainder + self.old.ratio.gains * ticks) % self.old.ratio.ticks }
+        ensures count { self.new.count ≡ (self.old.count + result) % 2 ^ 64 }
+        ensures kept { within width.bits self.new.kept.appointment ≡ after_take width.bits from result (within width.bits self.old.kept.appointment) }
     {
         let parts = self.parts(ticks);
         let gained = parts / self.ratio.ticks;
@@ -73,10 +74,10 @@ impl<A: Alarm> Rate<A> {
 
     // How long this clock takes to gain what is left: as long as the one below takes to bring the parts that are missing.
     fn wait(&mut self, left: u64) -> u64
-        requires { ⌜ 1 ≤ left ⌝ ∗ ⌜ left ≤ 2 ^ 48 ⌝ }
-        ensures answer { λ r. ⌜ r ≡ wait-for (rate-meaning (A·Clock .meaning (now (self .entry) .below)) (now (self .entry) .ratio .gains) (now (self .entry) .ratio .ticks) (now (self .entry) .remainder) (now (self .entry) .count)) left ⌝ }
-        ensures clock { λ _. ⌜ rate-meaning (A·Clock .meaning (now (self .exit) .below)) (now (self .exit) .ratio .gains) (now (self .exit) .ratio .ticks) (now (self .exit) .remainder) (now (self .exit) .count) ≡ rate-meaning (A·Clock .meaning (now (self .entry) .below)) (now (self .entry) .ratio .gains) (now (self .entry) .ratio .ticks) (now (self .entry) .remainder) (now (self .entry) .count) ⌝ }
-        ensures kept { λ _. ⌜ now (self .exit) .kept .appointment ≡ now (self .entry) .kept .appointment ⌝ }
+        requires { (1 ≤ left) × (left ≤ 2 ^ 48) }
+        ensures answer { result ≡ wait_for (rate_meaning (A.Clock.meaning self.old.below) self.old.ratio.gains self.old.ratio.ticks self.old.remainder self.old.count) left }
+        ensures clock { rate_meaning (A.Clock.meaning self.new.below) self.new.ratio.gains self.new.ratio.ticks self.new.remainder self.new.count ≡ rate_meaning (A.Clock.meaning self.old.below) self.old.ratio.gains self.old.ratio.ticks self.old.remainder self.old.count }
+        ensures kept { self.new.kept.appointment ≡ self.old.kept.appointment }
     {
         let parts = self.ratio.ticks * left - self.remainder;
         let needed = parts.div_ceil(self.ratio.gains);
@@ -84,10 +85,14 @@ impl<A: Alarm> Rate<A> {
     }
 }
 
-pub impl<A: Alarm> Clock for Rate<A> as RateClock {
+impl<A: Alarm> Clock for Rate<A> {
     type Sample = A::Sample;
 
-    ghost meaning = { λ x. rate-meaning (A·Clock .meaning (x .below)) (x .ratio .gains) (x .ratio .ticks) (x .remainder) (x .count) };
+    ghost meaning = { λ x. rate_meaning (A.Clock.meaning x.below) x.ratio.gains x.ratio.ticks x.remainder x.count };
+
+    ghost lawful = { λ x.
+        rate_lawful x.ratio.gains x.ratio.ticks x.remainder x.ratio.some x.ratio.slow x.small
+        (A.Clock.meaning x.below) (A.Clock.lawful x.below) x.count };
 
     fn width(&self) -> u32 {
         self.below.width()
@@ -102,8 +107,10 @@ pub impl<A: Alarm> Clock for Rate<A> as RateClock {
     }
 }
 
-pub impl<A: Alarm> Alarm for Rate<A> as RateAlarm {
-    ghost appointment = { λ x. within (A·Clock .meaning (x .below) .width) (x .kept .appointment) };
+impl<A: Alarm> Alarm for Rate<A> {
+    ghost appointment = { λ x. within (A.Clock.meaning x.below).width x.kept.appointment };
+
+    ghost sound = { first_of (Prim.search rules, Prim.grind (arith, Self.row.coded.inj)) };
 
     fn take(&mut self, sample: A::Sample) -> Result<u64, Fault> {
         let width = Width::of(&self.below);

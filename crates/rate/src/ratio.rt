@@ -1,10 +1,9 @@
 // What the layer is made with. Its limits are judged here, so that the making of a layer cannot be refused.
-ghost use mathlib.Core.Path.{_≡_};
-ghost use Prim.Native.Nat.{_≤_};
-ghost use Rattle·clock.specs.Making.{seen};
-ghost use Rattle·rate·specs.Ratio.{ratio-made};
-use fault::Cause;
-use fault::Fault;
+ghost use Rattle.std.specs.Prelude.{◌≡◌, ◌≤◌};
+ghost use Rattle.clock.specs.Making.{seen};
+ghost use Rattle.rate.specs.Ratio.{ratio_made};
+
+use fault::{Cause, Fault};
 
 // A rate: so many gains for so many ticks of the clock below.
 #[derive(Clone, Copy)]
@@ -19,7 +18,7 @@ pub struct Ratio {
 impl Ratio {
     // The rate gains/ticks, with 1 <= gains <= ticks <= 4096.
     pub fn new(gains: u64, ticks: u64) -> Result<Ratio, Fault>
-        ensures { λ r. ⌜ seen (λ q. (q .gains, q .ticks)) r ≡ ratio-made gains ticks ⌝ }
+        ensures { seen (λ q. (q.gains, q.ticks)) result ≡ ratio_made gains ticks }
     {
         if gains < 1 || gains > ticks || ticks > 4096 {
             return Err(Fault::in_alarm(Cause::BadSetting));

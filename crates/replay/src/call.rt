@@ -1,8 +1,8 @@
 // The calls of an alarm, and what an alarm answers to each.
-ghost use mathlib.Core.Path.{_≡_};
-ghost use Rattle·replay·specs.Answers.{Answers, took, was-set};
-use answers::AlarmAnswer;
-use answers::Answer;
+ghost use Rattle.std.specs.Prelude.{◌≡◌};
+ghost use Rattle.replay.specs.Answers.{Answers, took, was_set};
+
+use answers::{AlarmAnswer, Answer};
 use clock::alarm::Alarm;
 use fault::Fault;
 
@@ -20,7 +20,7 @@ pub enum Call<X> {
 }
 
 pub fn ask<A: Alarm>(alarm: &mut A, call: Call<A::Sample>) -> Answer
-    ensures { λ r. ⌜ Answers (A·Clock .meaning (now (alarm .entry))) (A·Alarm .appointment (now (alarm .entry))) call r (A·Clock .meaning (now (alarm .exit))) (A·Alarm .appointment (now (alarm .exit))) ⌝ }
+    ensures { Answers (A.Clock.meaning alarm.old) (A.Alarm.appointment alarm.old) call result (A.Clock.meaning alarm.new) (A.Alarm.appointment alarm.new) }
 {
     match call {
         Call::Width => Answer::Alarm(AlarmAnswer::Width(alarm.width())),
@@ -35,7 +35,7 @@ pub fn ask<A: Alarm>(alarm: &mut A, call: Call<A::Sample>) -> Answer
 }
 
 fn took(taken: Result<u64, Fault>) -> Answer
-    ensures { λ r. ⌜ r ≡ took taken ⌝ }
+    ensures { result ≡ took taken }
 {
     match taken {
         Ok(gained) => Answer::Alarm(AlarmAnswer::Took(gained)),
@@ -44,7 +44,7 @@ fn took(taken: Result<u64, Fault>) -> Answer
 }
 
 fn was_set(done: Result<(), Fault>) -> Answer
-    ensures { λ r. ⌜ r ≡ was-set done ⌝ }
+    ensures { result ≡ was_set done }
 {
     match done {
         Ok(()) => Answer::Alarm(AlarmAnswer::Set),

@@ -1,15 +1,9 @@
 // What a line of the log asks for.
 use crate::call::Call;
 use crate::logcall::LogCall;
-use crate::plan::Device;
-use crate::plan::Layer;
-use crate::plan::Layers;
-use crate::plan::Plan;
-use jobs::Action;
-use jobs::Job;
-use jobs::Kind;
-use words::Words;
-use words::number;
+use crate::plan::{Device, Layer, Layers, Plan};
+use jobs::{Action, Job, Kind};
+use words::{Words, number};
 
 #[derive(Drop)]
 pub enum Command {

@@ -1,23 +1,20 @@
 // The log: lines in, and answers out, a line for a line.
 use answers::Answer;
-use answers::AnswerDisplay;
 use std::alloc::Global;
 use std::io;
-use std::io::BufRead;
-use std::io::BufReader;
-use std::io::Stdin;
+use std::io::{BufRead, BufReader, Stdin};
 
 #[derive(Drop)]
 pub struct Lines {
-    rt: LibcRuntime,
+    rt: HostRuntime,
     input: BufReader<Stdin>,
-    line: Vec<u8, Global>,
+    line: Vec<u8>,
     // of the line read last, from 1
     number: u64,
 }
 
 impl Lines {
-    pub fn new(rt: LibcRuntime) -> Lines {
+    pub fn new(rt: HostRuntime) -> Lines {
         let input = BufReader::new(rt.stdin());
         let line = Vec::new(rt.alloc());
         Lines {
@@ -49,7 +46,7 @@ impl Lines {
     }
 
     // Reads lines up to one that is a single `.`, and gives them as one text; none where the input ends first.
-    pub fn script(&mut self) -> io::Result<Option<Vec<u8, Global>>> {
+    pub fn script(&mut self) -> io::Result<Option<Vec<u8>>> {
         let mut script = Vec::new(self.rt.alloc());
         for _ in 0..u64::MAX {
             if !self.advance()? {
@@ -68,6 +65,6 @@ impl Lines {
     }
 
     pub fn print(&self, answer: Answer) -> io::Result<()> {
-        println!(self.rt, "{answer}")
+        println!(self.rt; "{answer}")
     }
 }

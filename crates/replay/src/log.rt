@@ -7,11 +7,9 @@ use crate::logcall::LogCall;
 use crate::raw::Raw;
 use crate::stack::Stack;
 use crate::tickets::Tickets;
-use answers::Answer;
-use answers::LoggerAnswer;
+use answers::{Answer, LoggerAnswer};
 use clock::alarm::Alarm;
-use fault::Cause;
-use fault::Fault;
+use fault::{Cause, Fault};
 use logger::logger::Logger;
 use std::io;
 
@@ -74,15 +72,13 @@ fn answer<X: Raw, A: Alarm<Sample = X>>(
 // Loads the script that follows, all of it or nothing.
 fn load<A: Alarm>(logger: &mut Logger<A>, lines: &mut Lines) -> io::Result<Answer> {
     let number = lines.number();
-    Ok(
-        match lines.script()? {
-            None => Answer::NotUnderstood(number),
-            Some(script) => match script::load(logger, script.as_slice()) {
-                Ok(()) => Answer::Logger(LoggerAnswer::Loaded),
-                Err(fault) => Answer::Refused(fault),
-            },
+    Ok(match lines.script()? {
+        None => Answer::NotUnderstood(number),
+        Some(script) => match script::load(logger, script.as_slice()) {
+            Ok(()) => Answer::Logger(LoggerAnswer::Loaded),
+            Err(fault) => Answer::Refused(fault),
         },
-    )
+    })
 }
 
 // A sample with more bits than a register is one that no hardware shows.
@@ -100,34 +96,32 @@ fn ask<X: Raw, A: Alarm<Sample = X>>(
 
 // The call with its sample as the device has it.
 fn sampled<X: Raw>(call: LogCall<u64>) -> Option<LogCall<X>> {
-    Some(
-        match call {
-            LogCall::Serve(sample) => LogCall::Serve(X::from_number(sample)?),
-            LogCall::SetUp {
-                slot,
-                reference,
-                delay,
-                job,
-            } => LogCall::SetUp {
-                slot,
-                reference,
-                delay,
-                job,
-            },
-            LogCall::Errand {
-                slot,
-                reference,
-                delay,
-                action,
-            } => LogCall::Errand {
-                slot,
-                reference,
-                delay,
-                action,
-            },
-            LogCall::Settle { slot } => LogCall::Settle { slot },
-            LogCall::CallOff { slot } => LogCall::CallOff { slot },
-            LogCall::Next => LogCall::Next,
+    Some(match call {
+        LogCall::Serve(sample) => LogCall::Serve(X::from_number(sample)?),
+        LogCall::SetUp {
+            slot,
+            reference,
+            delay,
+            job,
+        } => LogCall::SetUp {
+            slot,
+            reference,
+            delay,
+            job,
         },
-    )
+        LogCall::Errand {
+            slot,
+            reference,
+            delay,
+            action,
+        } => LogCall::Errand {
+            slot,
+            reference,
+            delay,
+            action,
+        },
+        LogCall::Settle { slot } => LogCall::Settle { slot },
+        LogCall::CallOff { slot } => LogCall::CallOff { slot },
+        LogCall::Next => LogCall::Next,
+    })
 }

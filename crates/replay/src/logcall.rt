@@ -1,10 +1,8 @@
 // The calls of a logger that an alarm has not, and what a logger answers to each.
 use crate::tickets::Tickets;
-use answers::Answer;
-use answers::LoggerAnswer;
+use answers::{Answer, LoggerAnswer};
 use clock::alarm::Alarm;
-use jobs::Action;
-use jobs::Job;
+use jobs::{Action, Job};
 use logger::logger::Logger;
 use std::io;
 

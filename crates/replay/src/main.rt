@@ -15,7 +15,7 @@ use lines::Lines;
 use stack::Stack;
 use std::io;
 
-fn main(rt: LibcRuntime) -> io::Result<()> {
+fn main(rt: HostRuntime) -> io::Result<()> {
     let mut lines = Lines::new(rt);
     let mut stack = first_stack(&mut lines)?;
     for _ in 0..u64::MAX {

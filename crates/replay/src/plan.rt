@@ -1,12 +1,9 @@
 // A stack of layers over a device, as a line asks for it.
-use down::Count;
-use down::DownCounter;
-use fault::Cause;
-use fault::Fault;
+use down::{Count, DownCounter};
+use fault::{Cause, Fault};
 use offset::Shift;
 use rate::Ratio;
-use up::UpCounter;
-use up::Word;
+use up::{UpCounter, Word};
 use widening::Bits;
 
 // The numbers as they stand in the line: the library judges them.
@@ -65,14 +62,12 @@ impl Layers {
 
 impl Layer {
     fn setting(self) -> Result<Setting, Fault> {
-        Ok(
-            match self {
-                Layer::Absent => Setting::Absent,
-                Layer::Widen { bits } => Setting::Widen(Bits::new(narrow(bits))?),
-                Layer::Rate { gains, ticks } => Setting::Rate(Ratio::new(gains, ticks)?),
-                Layer::Offset { by } => Setting::Offset(Shift::new(by)?),
-            },
-        )
+        Ok(match self {
+            Layer::Absent => Setting::Absent,
+            Layer::Widen { bits } => Setting::Widen(Bits::new(narrow(bits))?),
+            Layer::Rate { gains, ticks } => Setting::Rate(Ratio::new(gains, ticks)?),
+            Layer::Offset { by } => Setting::Offset(Shift::new(by)?),
+        })
     }
 }
 

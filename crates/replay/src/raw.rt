@@ -7,13 +7,13 @@ pub trait Raw: Copy {
     fn from_number(n: u64) -> Option<Self>;
 }
 
-pub impl Raw for Word as WordRaw {
+impl Raw for Word {
     fn from_number(n: u64) -> Option<Word> {
         Some(Word(u32::try_from(n).ok()?))
     }
 }
 
-pub impl Raw for Count as CountRaw {
+impl Raw for Count {
     fn from_number(n: u64) -> Option<Count> {
         Some(Count(u32::try_from(n).ok()?))
     }

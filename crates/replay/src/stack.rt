@@ -1,39 +1,21 @@
 // The lines that are answered by one stack: a device under up to three layers, each kind of stack a type of its own.
-use crate::call;
 use crate::call::Call;
 use crate::command::Command;
 use crate::lines::Lines;
-use crate::log;
-use crate::plan;
-use crate::plan::Device;
-use crate::plan::Plan;
-use crate::plan::Setting;
-use crate::plan::Settings;
-use crate::raw::CountRaw;
+use crate::plan::{Device, Plan, Setting, Settings};
 use crate::raw::Raw;
-use crate::raw::WordRaw;
+use crate::{call, log, plan};
 use answers::Answer;
 use clock::alarm::Alarm;
-use down::DownAlarm;
-use down::DownClock;
 use down::DownCounter;
-use fault::Cause;
-use fault::Fault;
+use fault::{Cause, Fault};
 use logger::logger::Logger;
 use offset::Offset;
-use offset::OffsetAlarm;
-use offset::OffsetClock;
 use rate::Rate;
-use rate::RateAlarm;
-use rate::RateClock;
 use slots::moment::Moment;
 use std::io;
-use up::UpAlarm;
-use up::UpClock;
 use up::UpCounter;
 use widening::Widening;
-use widening::WideningAlarm;
-use widening::WideningClock;
 
 // A stack that was accepted: its device, and the settings of its layers.
 #[derive(Drop)]
@@ -174,16 +156,14 @@ fn ask<X: Raw, A: Alarm<Sample = X>>(alarm: &mut A, tag: u8, call: Call<u64>) ->
 
 // The call with its sample as the device has it.
 fn sampled<X: Raw>(call: Call<u64>) -> Option<Call<X>> {
-    Some(
-        match call {
-            Call::Width => Call::Width,
-            Call::Reach => Call::Reach,
-            Call::Reading => Call::Reading,
-            Call::Take(sample) => Call::Take(X::from_number(sample)?),
-            Call::Set { reference, delay } => Call::Set { reference, delay },
-            Call::Stop => Call::Stop,
-            Call::Claim => Call::Claim,
-            Call::Hold => Call::Hold,
-        },
-    )
+    Some(match call {
+        Call::Width => Call::Width,
+        Call::Reach => Call::Reach,
+        Call::Reading => Call::Reading,
+        Call::Take(sample) => Call::Take(X::from_number(sample)?),
+        Call::Set { reference, delay } => Call::Set { reference, delay },
+        Call::Stop => Call::Stop,
+        Call::Claim => Call::Claim,
+        Call::Hold => Call::Hold,
+    })
 }

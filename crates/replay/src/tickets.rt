@@ -1,10 +1,8 @@
 // The tickets that the program holds for its logger.
-ghost use Prim.Native.Nat.{_<_};
-ghost use Rattle·std.specs.Of.Vec.{vec-len};
-ghost use Rattle·std.specs.Options.{Cases as BySome};
+ghost use Rattle.std.specs.Prelude.{◌<◌, IfSome, vec_len};
+
 use crate::lines::Lines;
-use answers::Answer;
-use answers::LoggerAnswer;
+use answers::{Answer, LoggerAnswer};
 use clock::alarm::Alarm;
 use logger::logger::Logger;
 use logger::ticket::Ticket;
@@ -12,7 +10,7 @@ use std::alloc::Global;
 use std::io;
 
 pub struct Tickets {
-    held: Vec<Ticket, Global>,
+    held: Vec<Ticket>,
 }
 
 impl Tickets {
@@ -43,7 +41,7 @@ impl Tickets {
 
     // The place of the ticket for a slot.
     fn find(&self, slot: usize) -> Option<usize>
-        ensures { λ r. ⌜ BySome r (Unit {0}) (λ place. place < vec-len (now (self .entry) .held)) ⌝ }
+        ensures { IfSome result (λ place. place < vec_len self.now.held) }
     {
         for place in 0..self.held.len() {
             if self.held[place].slot() == slot {

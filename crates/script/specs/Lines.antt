@@ -1,15 +1,12 @@
 -- The lines that a script was read as, in their order.
 -- Assumes nothing.
-use mathlib.Core.List.{List}
-use lib.ListN.{take}
-use Rattle·std.specs.declared.result.Result.{Result}
-use Rattle·std.specs.declared.result.Result.the-variants.{Ok, Err}
-use Rattle·line.specs.declared.line.Line.{Line}
-use Rattle·script·specs.declared.lines.Script.{Script}
+use Rattle.std.specs.Prelude.{List, take, Ok, Err, Result}
+use Rattle.line.specs.declared.line.Line.{Line}
+use Rattle.script.specs.declared.lines.Script.{Script}
 
-abbrev pub lines-of : Script → List Line
-lines-of s = take (s .count) (s .lines)
+abbrev pub lines_of : Script → List Line
+lines_of s = take s.count s.lines
 
-abbrev pub read-as : {E : Type 0} → Result Script E → Result (List Line) E
-read-as (Ok s) = Ok (lines-of s)
-read-as (Err e) = Err e
+abbrev pub read_as : {E : Type 0} → Result Script E → Result (List Line) E
+read_as (Ok s) = Ok (lines_of s)
+read_as (Err e) = Err e

@@ -1,7 +1,6 @@
 // What a script asks for, line by line.
-ghost use mathlib.Core.Path.{_≡_};
-ghost use Prim.Native.Nat.{_≤_};
-ghost use lib.ListN.{length};
+ghost use Rattle.std.specs.Prelude.{◌≡◌, ◌≤◌, length};
+
 use line::Line;
 
 // The calls stand apart, since their contracts cite definitions over this struct.

@@ -1,9 +1,9 @@
 // Loading a script into a logger.
-ghost use mathlib.Core.Path.{_≡_};
-ghost use lib.ListN.{length};
-ghost use Rattle·logger.specs.Calls.{SetUp};
-ghost use Rattle·logger.specs.State.{view};
-ghost use Rattle·script·specs.Load.{is-free, free-slots, lines-for, load-answer, after-load};
+ghost use Rattle.std.specs.Prelude.{◌≡◌, length};
+ghost use Rattle.logger.specs.Calls.{SetUp};
+ghost use Rattle.logger.specs.State.{view};
+ghost use Rattle.script.specs.Load.{is_free, free_slots, lines_for, load_answer, after_load};
+
 use crate::reading::read;
 use clock::alarm::Alarm;
 use fault::Fault;
@@ -12,7 +12,7 @@ use line::Line;
 use logger::logger::Logger;
 
 fn is_free(slot: Slot) -> bool
-    ensures { λ r. ⌜ r ≡ is-free slot ⌝ }
+    ensures { result ≡ is_free slot }
 {
     match slot {
         Slot::Free => true,
@@ -21,7 +21,7 @@ fn is_free(slot: Slot) -> bool
 }
 
 fn free_slots(slots: &[Slot; 32]) -> [bool; 32]
-    ensures { λ r. ⌜ r ≡ free-slots (now (slots .entry)) ⌝ }
+    ensures { result ≡ free_slots slots.now }
 {
     let mut free = [false; 32];
     for i in 0..32 {
@@ -32,7 +32,7 @@ fn free_slots(slots: &[Slot; 32]) -> [bool; 32]
 
 // Sets up the job of a line at the logger's moment.
 fn set_up_line<A: Alarm>(logger: &mut Logger<A>, line: Line) -> Result<u64, Fault>
-    ensures { λ r. ⌜ SetUp (view (A·Clock .meaning) (now (logger .entry))) (line .slot) (now (logger .entry) .moment .ticks) (line .delay) (line .job) r (view (A·Clock .meaning) (now (logger .exit))) ⌝ }
+    ensures { SetUp (view A.Clock.meaning logger.old) line.slot logger.old.moment.ticks line.delay line.job result (view A.Clock.meaning logger.new) }
 {
     let moment = logger.moment();
     logger.set_up(usize::from(line.slot), moment, line.delay, line.job)
@@ -40,8 +40,8 @@ fn set_up_line<A: Alarm>(logger: &mut Logger<A>, line: Line) -> Result<u64, Faul
 
 // Sets up all lines of the script at the logger's moment; a refused script leaves the logger as it was.
 pub fn load<A: Alarm>(logger: &mut Logger<A>, script: &[u8]) -> Result<(), Fault>
-    ensures answer { λ r. ⌜ r ≡ load-answer (lines-for (view (A·Clock .meaning) (now (logger .entry))) (now (script .entry))) ⌝ }
-    ensures after { λ _. ⌜ view (A·Clock .meaning) (now (logger .exit)) ≡ after-load (view (A·Clock .meaning) (now (logger .entry))) (lines-for (view (A·Clock .meaning) (now (logger .entry))) (now (script .entry))) ⌝ }
+    ensures answer { result ≡ load_answer (lines_for (view A.Clock.meaning logger.old) script.now) }
+    ensures after { view A.Clock.meaning logger.new ≡ after_load (view A.Clock.meaning logger.old) (lines_for (view A.Clock.meaning logger.old) script.now) }
 {
     let free = free_slots(logger.slots());
     let loaded = read(script, &free)?;

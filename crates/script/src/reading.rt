@@ -1,16 +1,12 @@
 // Reading a whole script, line by line from the top.
-ghost use mathlib.Core.Path.{_≡_};
-ghost use mathlib.Core.Bool.{false};
-ghost use Prim.Native.Nat.{_<_};
-ghost use lib.ListN.{set};
-ghost use Rattle·script·specs.Lines.{read-as};
-ghost use Rattle·script·specs.Script.{script-of, ended-line};
-ghost use Rattle·script·specs.Text.{Law};
+ghost use Rattle.std.specs.Prelude.{◌≡◌, ◌<◌, false, slice_set};
+ghost use Rattle.script.specs.Lines.{read_as};
+ghost use Rattle.script.specs.Script.{script_of, ended_line};
+ghost use Rattle.script.specs.Text.{Law};
+
 use crate::lines::Script;
-use fault::Cause;
-use fault::Fault;
-use line::Line;
-use line::line_at;
+use fault::{Cause, Fault};
+use line::{Line, line_at};
 
 // The line that begins at this byte, and where the byte 10 that must end it stands.
 fn ended_line(
@@ -19,7 +15,7 @@ fn ended_line(
     byte: usize,
     free: &[bool; 32],
 ) -> Result<(Line, usize), Fault>
-    ensures { λ r. ⌜ r ≡ ended-line number byte (now (free .entry)) (now (text .entry)) ⌝ }
+    ensures { result ≡ ended_line number byte free.now text.now }
 {
     let (line, end) = line_at(text, number, byte, free)?;
     if end < text.len() {
@@ -31,16 +27,16 @@ fn ended_line(
 
 // No later line may have this slot.
 fn close(free: &mut [bool; 32], slot: u8)
-    requires { ⌜ slot < 32 ⌝ }
-    ensures { λ _. ⌜ now (free .exit) ≡ set (now (free .entry)) slot false ⌝ }
+    requires { slot < 32 }
+    ensures { free.new ≡ slice_set free.old slot false }
 {
     free[slot as usize] = false;
 }
 
 // The lines of a script, where the slots marked in `free` are free at its start.
 pub fn read(text: &[u8], free: &[bool; 32]) -> Result<Script, Fault>
-    ensures answer { λ r. ⌜ read-as r ≡ script-of (now (free .entry)) (now (text .entry)) ⌝ }
-    ensures law { λ _. ⌜ Law (now (free .entry)) (now (text .entry)) ⌝ }
+    ensures answer { read_as result ≡ script_of free.now text.now }
+    ensures law { Law free.now text.now }
 {
     let mut script = Script::new();
     let mut open = *free;

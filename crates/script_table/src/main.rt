@@ -1,13 +1,10 @@
 // A table of scripts and their listings. Each line of standard input is a script, in which `;` stands for byte 10;
 // what is printed is that line, cut at 60 bytes, and then the script's listing.
-ghost use mathlib.Core.Path.{_≡_};
-ghost use lib.ListN.{length};
-use fault::FaultDisplay;
+ghost use Rattle.std.specs.Prelude.{◌≡◌, length};
+
 use listing::listing;
 use std::io;
-use std::io::BufRead;
-use std::io::BufReader;
-use std::io::Write;
+use std::io::{BufRead, BufReader, Write};
 
 // No listing is longer.
 const PAGE: usize = 1024;
@@ -15,8 +12,8 @@ const PAGE: usize = 1024;
 // How much is printed of a line.
 const CUT: usize = 60;
 
-fn main(rt: LibcRuntime) -> io::Result<()> {
-    let mut input = BufReader::new(rt.stdin());
+fn main(rt: HostRuntime) -> io::Result<()> {
+    let mut input = BufReader::new(rt.alloc(), rt.stdin())?;
     let mut line = Vec::new(rt.alloc());
     for _ in 0..u64::MAX {
         line.clear();
@@ -28,7 +25,7 @@ fn main(rt: LibcRuntime) -> io::Result<()> {
     Ok(())
 }
 
-fn show(rt: &LibcRuntime, line: &mut [u8]) -> io::Result<()> {
+fn show(rt: &HostRuntime, line: &mut [u8]) -> io::Result<()> {
     let size = line.len().saturating_sub(1);
     let shown = size.min(CUT);
     rt.stdout().write_all(b"> ")?;
@@ -38,13 +35,13 @@ fn show(rt: &LibcRuntime, line: &mut [u8]) -> io::Result<()> {
     let mut page = [0; PAGE];
     match listing(&line[0..size], &mut page) {
         Ok(length) => rt.stdout().write_all(&page[0..length]),
-        Err(fault) => println!(rt, "{fault}"),
+        Err(fault) => println!(rt; "{fault}"),
     }
 }
 
 // Puts byte 10 in place of each `;`.
 fn put_ends(line: &mut [u8])
-    ensures { λ _. ⌜ length (now (line .exit)) ≡ length (now (line .entry)) ⌝ }
+    ensures { length line.new ≡ length line.old }
 {
     for byte in line.iter_mut() {
         if *byte == b';' {

@@ -1,21 +1,10 @@
 // A few uses, as a caller writes them.
-use book::Book;
-use book::Firing;
-use book::FiringDebug;
-use book::FiringPartialEq;
-use book::Reading;
-use book::ReadingDebug;
-use book::ReadingPartialEq;
-use queue::Due;
-use queue::DueDebug;
-use queue::DueOrd;
-use queue::DuePartialEq;
-use queue::Queue;
+use book::{Book, Firing, Reading};
+use queue::{Due, Queue};
 use sorting::in_order;
-use std::test::*;
 
 #[test]
-fn a_book_of_firings() -> Result<(), Fail> {
+fn a_book_of_firings(rt: HostRuntime) {
     let blank = Firing {
         slot: 0,
         due: 0,
@@ -28,18 +17,18 @@ fn a_book_of_firings() -> Result<(), Fail> {
     };
     let mut row = [blank; 2];
     let mut book = Book::new(&mut row);
-    check_eq(book.entry(0), None)?;
-    check(book.add(first).is_ok())?;
-    check_eq(book.entry(0), Some(first))?;
-    check_eq(book.entry(1), None)?;
-    check(book.add(blank).is_ok())?;
-    check(book.add(first).is_err())?;
-    check_eq(book.count(), 2)?;
-    check_eq(book.entry(1), Some(blank))
+    assert_eq!(rt; book.entry(0), None);
+    assert!(rt; book.add(first).is_ok());
+    assert_eq!(rt; book.entry(0), Some(first));
+    assert_eq!(rt; book.entry(1), None);
+    assert!(rt; book.add(blank).is_ok());
+    assert!(rt; book.add(first).is_err());
+    assert_eq!(rt; book.count(), 2);
+    assert_eq!(rt; book.entry(1), Some(blank));
 }
 
 #[test]
-fn a_book_of_readings() -> Result<(), Fail> {
+fn a_book_of_readings(rt: HostRuntime) {
     let cold = Reading {
         channel: 3,
         moment: 40,
@@ -47,12 +36,12 @@ fn a_book_of_readings() -> Result<(), Fail> {
     };
     let mut row = [cold; 1];
     let mut book = Book::new(&mut row);
-    check(book.add(cold).is_ok())?;
-    check_eq(book.entry(0), Some(cold))
+    assert!(rt; book.add(cold).is_ok());
+    assert_eq!(rt; book.entry(0), Some(cold));
 }
 
 #[test]
-fn a_queue_of_due_slots() -> Result<(), Fail> {
+fn a_queue_of_due_slots(rt: HostRuntime) {
     let late = Due {
         moment: 20,
         slot: 1,
@@ -67,23 +56,23 @@ fn a_queue_of_due_slots() -> Result<(), Fail> {
     };
     let mut row = [late; 3];
     let mut queue = Queue::new();
-    check(queue.add(&mut row, high).is_ok())?;
-    check(queue.add(&mut row, late).is_ok())?;
-    check(queue.add(&mut row, low).is_ok())?;
-    check(queue.add(&mut row, low).is_err())?;
-    check_eq(queue.least(&row), Some(low))?;
-    check(queue.remove(&mut row, high))?;
-    check(!queue.remove(&mut row, high))?;
-    check_eq(queue.take_least(&mut row), Some(low))?;
-    check_eq(queue.take_least(&mut row), Some(late))?;
-    check_eq(queue.take_least(&mut row), None)
+    assert!(rt; queue.add(&mut row, high).is_ok());
+    assert!(rt; queue.add(&mut row, late).is_ok());
+    assert!(rt; queue.add(&mut row, low).is_ok());
+    assert!(rt; queue.add(&mut row, low).is_err());
+    assert_eq!(rt; queue.least(&row), Some(low));
+    assert!(rt; queue.remove(&mut row, high));
+    assert!(rt; !queue.remove(&mut row, high));
+    assert_eq!(rt; queue.take_least(&mut row), Some(low));
+    assert_eq!(rt; queue.take_least(&mut row), Some(late));
+    assert_eq!(rt; queue.take_least(&mut row), None);
 }
 
 #[test]
-fn numbers_in_order() -> Result<(), Fail> {
+fn numbers_in_order(rt: HostRuntime) {
     let mut numbers = [30u8, 10, 20, 10];
     let mut row = [0u8; 4];
-    check(in_order(&mut numbers, &mut row).is_ok())?;
-    check_eq(numbers, [10, 10, 20, 30])?;
-    check(in_order(&mut numbers, &mut row[0..3]).is_err())
+    assert!(rt; in_order(&mut numbers, &mut row).is_ok());
+    assert_eq!(rt; numbers, [10, 10, 20, 30]);
+    assert!(rt; in_order(&mut numbers, &mut row[0..3]).is_err());
 }

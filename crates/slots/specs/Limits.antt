@@ -1,25 +1,23 @@
 -- The limits of a job, and of the delay that it is set up with.
 -- Assumes nothing.
-use mathlib.Core.Bool.{Bool, true, _&&_}
-use Prim.Native.Nat.{ℕ, _^_}
-use lib.Dec.{leb, ltb}
-use Rattle·jobs.specs.declared.Job.{Job}
-use Rattle·jobs.specs.declared.Kind.{Kind}
-use Rattle·jobs.specs.declared.Kind.the-variants.{Once, Every, Burst}
-use Rattle·jobs.specs.declared.Action.{Action}
-use Rattle·jobs.specs.declared.Action.the-variants.{Read, Mark}
+use Rattle.std.specs.Prelude.{ℕ, ◌^◌, Bool, true, ◌&&◌, nat_le, nat_lt}
+use Rattle.jobs.specs.declared.Job.{Job}
+use Rattle.jobs.specs.declared.Kind.{Kind}
+use Rattle.jobs.specs.declared.Kind.TheVariants.{Once, Every, Burst}
+use Rattle.jobs.specs.declared.Action.{Action}
+use Rattle.jobs.specs.declared.Action.TheVariants.{Read, Mark}
 
-abbrev pub period-fits : ℕ → Bool
-period-fits period = leb 1 period && ltb period (2 ^ 40)
+abbrev pub period_fits : ℕ → Bool
+period_fits period = nat_le 1 period && nat_lt period (2 ^ 40)
 
-abbrev pub kind-fits : Kind → Bool
-kind-fits Once = true
-kind-fits (Every period) = period-fits period
-kind-fits (Burst count period) = (leb 1 count && leb count 65535) && period-fits period
+abbrev pub kind_fits : Kind → Bool
+kind_fits Once = true
+kind_fits (Every period) = period_fits period
+kind_fits (Burst count period) = (nat_le 1 count && nat_le count 65535) && period_fits period
 
-abbrev pub action-fits : Action → Bool
-action-fits (Read channel) = leb channel 15
-action-fits Mark = true
+abbrev pub action_fits : Action → Bool
+action_fits (Read channel) = nat_le channel 15
+action_fits Mark = true
 
-abbrev pub job-fits : ℕ → Job → Bool
-job-fits delay job = ltb delay (2 ^ 40) && (kind-fits (job .kind) && action-fits (job .action))
+abbrev pub job_fits : ℕ → Job → Bool
+job_fits delay job = nat_lt delay (2 ^ 40) && (kind_fits job.kind && action_fits job.action)

@@ -1,18 +1,14 @@
 -- What the maker of a moment answers: a moment is below 2^62.
 -- Assumes nothing.
-use mathlib.Core.Bool.{cond}
-use Prim.Native.Nat.{ℕ, _^_}
-use lib.Dec.{ltb}
-use Rattle·std.specs.declared.result.Result.{Result}
-use Rattle·std.specs.declared.result.Result.the-variants.{Ok, Err}
-use Rattle·fault.specs.declared.Fault.{Fault}
-use Rattle·fault.specs.Table.{moment-limit}
-use Rattle·slots·specs.declared.moment.Moment.{Moment}
+use Rattle.std.specs.Prelude.{ℕ, ◌^◌, cond, Ok, Err, Result, nat_lt}
+use Rattle.fault.specs.declared.Fault.{Fault}
+use Rattle.fault.specs.Table.{moment_limit}
+use Rattle.slots.specs.declared.moment.Moment.{Moment}
 
-abbrev pub moment-made : ℕ → Result ℕ Fault
-moment-made ticks = cond (ltb ticks (2 ^ 62)) (Ok ticks) (Err moment-limit)
+abbrev pub moment_made : ℕ → Result ℕ Fault
+moment_made ticks = cond (nat_lt ticks (2 ^ 62)) (Ok ticks) (Err moment_limit)
 
 -- an answer by the ticks of its moment
-abbrev pub by-ticks : Result Moment Fault → Result ℕ Fault
-by-ticks (Ok moment) = Ok (moment .ticks)
-by-ticks (Err fault) = Err fault
+abbrev pub by_ticks : Result Moment Fault → Result ℕ Fault
+by_ticks (Ok moment) = Ok moment.ticks
+by_ticks (Err fault) = Err fault

@@ -1,27 +1,21 @@
 -- One slot: what a call answers for it, what a firing makes of it, and how far off its due moment is.
 -- Assumes nothing.
-use mathlib.Core.Bool.{Bool, true, false, cond}
-use Prim.Native.Nat.{ℕ, min, _+_, _-_, _^_}
-use lib.Dec.{ltb}
-use Rattle·std.specs.declared.option.Option.{Option}
-use Rattle·std.specs.declared.option.Option.the-variants.{Some, None}
-use Rattle·std.specs.declared.result.Result.{Result}
-use Rattle·std.specs.declared.result.Result.the-variants.{Ok, Err}
-use Rattle·fault.specs.declared.Fault.{Fault}
-use Rattle·fault.specs.Table.{no-slot, slot-taken, slot-free, slot-errand, reference-ahead, slot-limits, foreign-ticket}
-use Rattle·jobs.specs.declared.Slot.{Slot}
-use Rattle·jobs.specs.declared.Slot.the-variants.{Free, Standing, Waiting}
-use Rattle·jobs.specs.declared.Job.{Job}
-use Rattle·jobs.specs.declared.Kind.{Kind}
-use Rattle·jobs.specs.declared.Kind.the-variants.{Once, Every, Burst}
-use Rattle·jobs.specs.declared.Action.{Action}
-use Rattle·jobs.specs.declared.Firing.{Firing}
-use Rattle·jobs.specs.declared.Outcome.{Outcome}
-use Rattle·slots·specs.Limits.{job-fits}
+use Rattle.std.specs.Prelude.{ℕ, ◌+◌, ◌-◌, ◌^◌, min, Bool, true, false, cond, Some, None, Ok, Err, Option, Result, nat_lt}
+use Rattle.fault.specs.declared.Fault.{Fault}
+use Rattle.fault.specs.Table.{no_slot, slot_taken, slot_free, slot_errand, reference_ahead, slot_limits, foreign_ticket}
+use Rattle.jobs.specs.declared.Slot.{Slot}
+use Rattle.jobs.specs.declared.Slot.TheVariants.{Free, Standing, Waiting}
+use Rattle.jobs.specs.declared.Job.{Job}
+use Rattle.jobs.specs.declared.Kind.{Kind}
+use Rattle.jobs.specs.declared.Kind.TheVariants.{Once, Every, Burst}
+use Rattle.jobs.specs.declared.Action.{Action}
+use Rattle.jobs.specs.declared.Firing.{Firing}
+use Rattle.jobs.specs.declared.Outcome.{Outcome}
+use Rattle.slots.specs.Limits.{job_fits}
 
 -- the job of an errand
-abbrev pub once-job : Action → Job
-once-job action = record { kind = Once; action = action }
+abbrev pub once_job : Action → Job
+once_job action = record { kind = Once; action = action }
 
 abbrev pub taken : Slot → Bool
 taken Free = false
@@ -29,38 +23,38 @@ taken (Standing due job errand) = true
 taken (Waiting due) = true
 
 -- a set-up of slot j at moment s answers the first due moment; its refusals, in their order
-abbrev pub set-up-slot : ℕ → ℕ → Slot → ℕ → ℕ → Job → Result ℕ Fault
-set-up-slot s j slot reference delay job =
-    cond (ltb 31 j) (Err (no-slot j))
-    (cond (taken slot) (Err (slot-taken j))
-    (cond (ltb s reference) (Err (reference-ahead j))
-    (cond (job-fits delay job) (Ok (reference + delay)) (Err (slot-limits j)))))
+abbrev pub set_up_slot : ℕ → ℕ → Slot → ℕ → ℕ → Job → Result ℕ Fault
+set_up_slot s j slot reference delay job =
+    cond (nat_lt 31 j) (Err (no_slot j))
+    (cond (taken slot) (Err (slot_taken j))
+    (cond (nat_lt s reference) (Err (reference_ahead j))
+    (cond (job_fits delay job) (Ok (reference + delay)) (Err (slot_limits j)))))
 
 -- a call-off of slot j answers the due moment that is given up
-abbrev pub call-off-standing : ℕ → Slot → Result ℕ Fault
-call-off-standing j Free = Err (slot-free j)
-call-off-standing j (Standing due job errand) = cond errand (Err (slot-errand j)) (Ok due)
-call-off-standing j (Waiting due) = Err (slot-errand j)
+abbrev pub call_off_standing : ℕ → Slot → Result ℕ Fault
+call_off_standing j Free = Err (slot_free j)
+call_off_standing j (Standing due job errand) = cond errand (Err (slot_errand j)) (Ok due)
+call_off_standing j (Waiting due) = Err (slot_errand j)
 
-abbrev pub call-off-slot : ℕ → Slot → Result ℕ Fault
-call-off-slot j slot = cond (ltb 31 j) (Err (no-slot j)) (call-off-standing j slot)
+abbrev pub call_off_slot : ℕ → Slot → Result ℕ Fault
+call_off_slot j slot = cond (nat_lt 31 j) (Err (no_slot j)) (call_off_standing j slot)
 
 -- a settle of the errand in slot j
-abbrev pub settle-slot : ℕ → Slot → Result Outcome Fault
-settle-slot j Free = Err (foreign-ticket j)
-settle-slot j (Standing due job errand) = cond errand (Ok (record { due = due; fired = false })) (Err (foreign-ticket j))
-settle-slot j (Waiting due) = Ok (record { due = due; fired = true })
+abbrev pub settle_slot : ℕ → Slot → Result Outcome Fault
+settle_slot j Free = Err (foreign_ticket j)
+settle_slot j (Standing due job errand) = cond errand (Ok (record { due = due; fired = false })) (Err (foreign_ticket j))
+settle_slot j (Waiting due) = Ok (record { due = due; fired = true })
 
 -- a slot after its job fired: the period counts from the due moment, never from the moment of service
 abbrev pub again : ℕ → Action → Kind → Slot
 again due action Once = Free
 again due action (Every period) = Standing (due + period) (record { kind = Every period; action = action }) false
 again due action (Burst count period) =
-    cond (ltb 1 count) (Standing (due + period) (record { kind = Burst (count - 1) period; action = action }) false) Free
+    cond (nat_lt 1 count) (Standing (due + period) (record { kind = Burst (count - 1) period; action = action }) false) Free
 
 abbrev pub fired : Slot → Slot
 fired Free = Free
-fired (Standing due job errand) = cond errand (Waiting due) (again due (job .action) (job .kind))
+fired (Standing due job errand) = cond errand (Waiting due) (again due job.action job.kind)
 fired (Waiting due) = Waiting due
 
 -- a due moment past 64 bits stops at the last one that they hold
@@ -72,7 +66,7 @@ capped (Waiting due) = Waiting due
 -- the firing that slot j has to come, as next would answer it at moment s
 abbrev pub coming : ℕ → ℕ → Slot → Option Firing
 coming s j Free = None
-coming s j (Standing due job errand) = Some (record { slot = j; due = due; at = s; action = job .action })
+coming s j (Standing due job errand) = Some (record { slot = j; due = due; at = s; action = job.action })
 coming s j (Waiting due) = None
 
 -- the ticks from moment s to the slot's due moment, none where that is reached

@@ -1,20 +1,12 @@
 // One slot: what a call answers for it, what a firing makes of it, and how far off its due moment is.
-ghost use mathlib.Core.Path.{_≡_};
-ghost use mathlib.Core.Bool.{true, false};
-ghost use Prim.Native.Nat.{min, _+_, _-_, _^_};
-ghost use Rattle·std.specs.Vec.{made};
-ghost use Rattle·slots·specs.Limits.{kind-fits};
-ghost use Rattle·slots·specs.Slots.{taken, set-up-slot, call-off-slot, settle-slot, again, fired, capped, coming, distance};
+ghost use Rattle.std.specs.Prelude.{◌≡◌, ◌+◌, ◌-◌, ◌^◌, min, true, false, OnOk};
+ghost use Rattle.slots.specs.Limits.{kind_fits};
+ghost use Rattle.slots.specs.Slots.{taken, set_up_slot, call_off_slot, settle_slot, again, fired, capped, coming, distance};
+
 use crate::limits::fits;
 use crate::moment::Moment;
-use fault::Cause;
-use fault::Fault;
-use jobs::Action;
-use jobs::Firing;
-use jobs::Job;
-use jobs::Kind;
-use jobs::Outcome;
-use jobs::Slot;
+use fault::{Cause, Fault};
+use jobs::{Action, Firing, Job, Kind, Outcome, Slot};
 
 mod limits;
 pub mod moment;
@@ -23,7 +15,7 @@ pub mod moment;
 const LAST: usize = 31;
 
 fn is_taken(state: Slot) -> bool
-    ensures { λ r. ⌜ r ≡ taken state ⌝ }
+    ensures { result ≡ taken state }
 {
     match state {
         Slot::Free => false,
@@ -40,8 +32,8 @@ pub fn set_up(
     delay: u64,
     job: Job,
 ) -> Result<u64, Fault>
-    ensures answer { λ r. ⌜ r ≡ set-up-slot (moment .ticks) slot state reference delay job ⌝ }
-    ensures limits { λ r. ⌜ made r (λ _. kind-fits (job .kind) ≡ true) ⌝ }
+    ensures answer { result ≡ set_up_slot moment.ticks slot state reference delay job }
+    ensures limits { OnOk result (kind_fits job.kind ≡ true) }
 {
     if slot > LAST {
         return Err(Fault::in_slot(Cause::NoSlot, slot));
@@ -60,7 +52,7 @@ pub fn set_up(
 
 // The due moment that is given up, or why it is not. Who holds the ticket of an errand settles it.
 pub fn call_off(state: Slot, slot: usize) -> Result<u64, Fault>
-    ensures { λ r. ⌜ r ≡ call-off-slot slot state ⌝ }
+    ensures { result ≡ call_off_slot slot state }
 {
     if slot > LAST {
         return Err(Fault::in_slot(Cause::NoSlot, slot));
@@ -80,7 +72,7 @@ pub fn call_off(state: Slot, slot: usize) -> Result<u64, Fault>
 
 // What a ticket for this slot is settled for; a slot that holds no errand knows no ticket.
 pub fn settle(state: Slot, slot: usize) -> Result<Outcome, Fault>
-    ensures { λ r. ⌜ r ≡ settle-slot slot state ⌝ }
+    ensures { result ≡ settle_slot slot state }
 {
     match state {
         Slot::Free => Err(Fault::in_slot(Cause::ForeignTicket, slot)),
@@ -97,7 +89,7 @@ pub fn settle(state: Slot, slot: usize) -> Result<Outcome, Fault>
 
 // A job that goes on after a firing, one period later.
 fn standing(due: u64, period: u64, kind: Kind, action: Action) -> Slot
-    ensures { λ r. ⌜ r ≡ Slot.Standing (min (due + period) (2 ^ 64 - 1)) (record { kind = kind; action = action }) false ⌝ }
+    ensures { result ≡ Slot.Standing (min (due + period) (2 ^ 64 - 1)) (record { kind = kind; action = action }) false }
 {
     Slot::Standing {
         due: due.saturating_add(period),
@@ -108,7 +100,7 @@ fn standing(due: u64, period: u64, kind: Kind, action: Action) -> Slot
 
 // The slot after a firing that was due at this moment. The period counts from there, however late the firing came.
 fn stand_again(job: Job, due: u64) -> Slot
-    ensures { λ r. ⌜ r ≡ capped (again due (job .action) (job .kind)) ⌝ }
+    ensures { result ≡ capped (again due job.action job.kind) }
 {
     match job.kind {
         Kind::Once => Slot::Free,
@@ -129,7 +121,7 @@ fn stand_again(job: Job, due: u64) -> Slot
 
 // Fires a slot: what `next` answers at this moment, and the state that it leaves.
 pub fn fire(state: Slot, moment: Moment, slot: usize) -> (Option<Firing>, Slot)
-    ensures { λ r. ⌜ r ≡ (coming (moment .ticks) slot state, capped (fired state)) ⌝ }
+    ensures { result ≡ (coming moment.ticks slot state, capped (fired state)) }
 {
     match state {
         Slot::Free => (None, Slot::Free),
@@ -153,7 +145,7 @@ pub fn fire(state: Slot, moment: Moment, slot: usize) -> (Option<Firing>, Slot)
 
 // The ticks from a moment to the due one, none where that is reached.
 pub fn distance(state: Slot, moment: u64) -> Option<u64>
-    ensures { λ r. ⌜ r ≡ distance moment state ⌝ }
+    ensures { result ≡ distance moment state }
 {
     match state {
         Slot::Standing { due, .. } => Some(due.saturating_sub(moment)),

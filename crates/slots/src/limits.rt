@@ -1,21 +1,20 @@
 // The limits of a job, and of the delay that it is set up with.
-ghost use mathlib.Core.Path.{_≡_};
-ghost use Rattle·slots·specs.Limits.{period-fits, kind-fits, action-fits, job-fits};
-use jobs::Action;
-use jobs::Job;
-use jobs::Kind;
+ghost use Rattle.std.specs.Prelude.{◌≡◌};
+ghost use Rattle.slots.specs.Limits.{period_fits, kind_fits, action_fits, job_fits};
+
+use jobs::{Action, Job, Kind};
 
 // Periods and delays stay below 2^40 ticks.
 const TICKS: u64 = 1_099_511_627_776;
 
 fn period_fits(period: u64) -> bool
-    ensures { λ r. ⌜ r ≡ period-fits period ⌝ }
+    ensures { result ≡ period_fits period }
 {
     period >= 1 && period < TICKS
 }
 
 fn kind_fits(kind: Kind) -> bool
-    ensures { λ r. ⌜ r ≡ kind-fits kind ⌝ }
+    ensures { result ≡ kind_fits kind }
 {
     match kind {
         Kind::Once => true,
@@ -25,7 +24,7 @@ fn kind_fits(kind: Kind) -> bool
 }
 
 fn action_fits(action: Action) -> bool
-    ensures { λ r. ⌜ r ≡ action-fits action ⌝ }
+    ensures { result ≡ action_fits action }
 {
     match action {
         Action::Read { channel } => channel <= 15,
@@ -34,7 +33,7 @@ fn action_fits(action: Action) -> bool
 }
 
 pub(crate) fn fits(job: Job, delay: u64) -> bool
-    ensures { λ r. ⌜ r ≡ job-fits delay job ⌝ }
+    ensures { result ≡ job_fits delay job }
 {
     delay < TICKS && (kind_fits(job.kind) && action_fits(job.action))
 }

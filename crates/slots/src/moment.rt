@@ -1,6 +1,5 @@
 // A moment of a logger: a count of its clock's ticks.
-ghost use mathlib.Core.Path.{_≡_};
-ghost use Prim.Native.Nat.{_^_, _<_};
+ghost use Rattle.std.specs.Prelude.{◌≡◌, ◌^◌, ◌<◌};
 
 mod making;
 

@@ -1,5 +1,4 @@
 // The law of the queue: what is put in comes out in order, all of it, once.
 mod sorting;
 
-pub use sorting::drain;
-pub use sorting::in_order;
+pub use sorting::{drain, in_order};

@@ -1,99 +1,92 @@
 -- The records of a table when one slot changes: the old one's record goes out, the new one's comes in. Assumes nothing.
-use mathlib.Core.Path.{_≡_, refl, sym, ap, _∙_}
-use mathlib.Core.List.{List, [], _∷_, _++_}
-use mathlib.Core.Logic.{∥∥₁-elim}
-use base.Stored.{coded-set, codedList}
-use Prim.Native.Nat.{ℕ, zero, suc, _+_, _-_, _<_, _≤_}
-use native.Mathlib.Nat.{add-zero, zero-add, add-suc, suc-add}
-use native.Mathlib.Omega.{arith}
-use lib.ListN.{length, getD, set, take, drop}
-use Rattle·std.specs.declared.option.Option.{Option}
-use Rattle·std.specs.declared.option.Option.the-variants.{Some, None}
-use Rattle·std.proofs.shelf.Lists.{append-assoc, length-append, length-take-le, length-drop, set-getD, set-split}
-use Rattle·queue.specs.declared.dues.Due.{Due}
-use Rattle·queue.specs.contracts.dues.Due.{the-row}
-use Rattle·queue.specs.Due.{due-order}
-use Rattle·queue.specs.Order.{in-order}
-use Rattle·queue.proofs.DueOrder.{due-strict}
-use Rattle·queue.proofs.Ordered.{length-added}
-use Rattle·queue.proofs.Sorted.{in-order-middle, without-in-order}
-use Rattle·jobs.specs.declared.Slot.{Slot}
-use Rattle·jobs.specs.declared.Slot.the-variants.{Free, Standing, Waiting}
-use Rattle·table·specs.Dues.{due-of, listed, standing-dues, planned, noted, forgotten}
+use Rattle.std.proofs.Common.{◌≡◌, ℕ, zero, suc, ◌+◌, ◌-◌, ◌<◌, ◌≤◌, List, [], ◌∷◌, ◌++◌, length, get_or, take, drop, set, Some, None, Option, sym, refl, ap, ◌∙◌, add-zero, add-suc, suc-add, zero-add, arith}
+use mathlib.Core.Logic.{∥∥₁_elim}
+use base.Stored.{Coded-set, coded_list}
+use Rattle.std.proofs.lemmas.List.{append_assoc, length-append, length-take-le, length-drop, set-get_or, set_split}
+use Rattle.queue.specs.declared.dues.Due.{Due}
+use Rattle.queue.specs.contracts.dues.Due.{the_row}
+use Rattle.queue.specs.Due.{due_order}
+use Rattle.queue.specs.Order.{in_order}
+use Rattle.queue.proofs.DueOrder.{due_strict}
+use Rattle.queue.proofs.Ordered.{length_added}
+use Rattle.queue.proofs.Sorted.{in_order_middle, without_in_order}
+use Rattle.jobs.specs.declared.Slot.{Slot}
+use Rattle.jobs.specs.declared.Slot.TheVariants.{Free, Standing, Waiting}
+use Rattle.table.specs.Dues.{due_of, listed, standing_dues, planned, noted, forgotten}
 
 -- ---- an equation that a ghost field holds
 
-pub dues-same : {xs ys : List Due} → ∥ xs ≡ ys ∥₁ → xs ≡ ys
-dues-same {xs} {ys} h = ∥∥₁-elim h (coded-set (codedList (the-row .coded)) xs ys) (λ e. e)
+pub dues_same : {xs ys : List Due} → ∥ xs ≡ ys ∥₁ → xs ≡ ys
+dues_same {xs} {ys} h = ∥∥₁_elim h (Coded-set (coded_list the_row.coded) xs ys) (λ e. e)
 
 -- ---- one record more or less
 
-put-in : (o : Option Due) (xs ys : List Due) → in-order due-order (xs ++ (listed o ++ ys)) ≡ noted o (in-order due-order (xs ++ ys))
-put-in None xs ys = refl
-put-in (Some d) xs ys = in-order-middle due-order due-strict xs d ys
+put_in : (o : Option Due) (xs ys : List Due) → in_order due_order (xs ++ (listed o ++ ys)) ≡ noted o (in_order due_order (xs ++ ys))
+put_in None xs ys = refl
+put_in (Some d) xs ys = in_order_middle due_order due_strict xs d ys
 
-take-out : (o : Option Due) (xs ys : List Due) → forgotten o (in-order due-order (xs ++ (listed o ++ ys))) ≡ in-order due-order (xs ++ ys)
-take-out None xs ys = refl
-take-out (Some d) xs ys = without-in-order due-order due-strict xs d ys
+take_out : (o : Option Due) (xs ys : List Due) → forgotten o (in_order due_order (xs ++ (listed o ++ ys))) ≡ in_order due_order (xs ++ ys)
+take_out None xs ys = refl
+take_out (Some d) xs ys = without_in_order due_order due_strict xs d ys
 
 -- ---- the records of a table
 
-dues-append : (i : ℕ) (xs ys : List Slot) → standing-dues i (xs ++ ys) ≡ standing-dues i xs ++ standing-dues (i + length xs) ys
-dues-append i [] ys = ap (λ n. standing-dues n ys) (sym (add-zero i))
-dues-append i (x ∷ xs) ys =
+dues_append : (i : ℕ) (xs ys : List Slot) → standing_dues i (xs ++ ys) ≡ standing_dues i xs ++ standing_dues (i + length xs) ys
+dues_append i [] ys = ap (λ n. standing_dues n ys) (sym (add-zero i))
+dues_append i (x ∷ xs) ys =
     let n : suc i + length xs ≡ i + suc (length xs) = omega arith in
-    ap (λ l. listed (due-of i x) ++ l) (dues-append (suc i) xs ys ∙ ap (λ m. standing-dues (suc i) xs ++ standing-dues m ys) n)
-    ∙ sym (append-assoc (listed (due-of i x)) (standing-dues (suc i) xs) (standing-dues (i + suc (length xs)) ys))
+    ap (λ l. listed (due_of i x) ++ l) (dues_append (suc i) xs ys ∙ ap (λ m. standing_dues (suc i) xs ++ standing_dues m ys) n)
+    ∙ sym (append_assoc (listed (due_of i x)) (standing_dues (suc i) xs) (standing_dues (i + suc (length xs)) ys))
 
-listed-short : (o : Option Due) → length (listed o) ≤ 1
-listed-short None = omega arith
-listed-short (Some d) = omega arith
+listed_short : (o : Option Due) → length (listed o) ≤ 1
+listed_short None = omega arith
+listed_short (Some d) = omega arith
 
-dues-short : (i : ℕ) (xs : List Slot) → length (standing-dues i xs) ≤ length xs
-dues-short i [] = omega arith
-dues-short i (x ∷ xs) =
-    omega (arith, length-append (listed (due-of i x)) (standing-dues (suc i) xs), listed-short (due-of i x), dues-short (suc i) xs)
+dues_short : (i : ℕ) (xs : List Slot) → length (standing_dues i xs) ≤ length xs
+dues_short i [] = omega arith
+dues_short i (x ∷ xs) =
+    omega (arith, length-append (listed (due_of i x)) (standing_dues (suc i) xs), listed_short (due_of i x), dues_short (suc i) xs)
 
 module _ (slots : List Slot) (j : ℕ) where
   before : List Due
-  before = standing-dues 0 (take j slots)
+  before = standing_dues 0 (take j slots)
 
   after : List Due
-  after = standing-dues (suc j) (drop (suc j) slots)
+  after = standing_dues (suc j) (drop (suc j) slots)
 
   -- the records of all slots but j
   pub others : List Due
-  others = in-order due-order (before ++ after)
+  others = in_order due_order (before ++ after)
 
-  split-at : (x : Slot) → j < length slots → standing-dues 0 (set slots j x) ≡ before ++ (listed (due-of j x) ++ after)
+  split_at : (x : Slot) → j < length slots → standing_dues 0 (set slots j x) ≡ before ++ (listed (due_of j x) ++ after)
   unfolding before after
-  split-at x in′ =
+  split_at x in' =
       let n : 0 + length (take j slots) ≡ j = zero-add (length (take j slots)) ∙ length-take-le j slots (omega arith) in
-      ap (standing-dues 0) (set-split slots j x in′)
-      ∙ dues-append 0 (take j slots) (x ∷ drop (suc j) slots)
-      ∙ ap (λ m. standing-dues 0 (take j slots) ++ standing-dues m (x ∷ drop (suc j) slots)) n
+      ap (standing_dues 0) (set_split slots j x in')
+      ∙ dues_append 0 (take j slots) (x ∷ drop (suc j) slots)
+      ∙ ap (λ m. standing_dues 0 (take j slots) ++ standing_dues m (x ∷ drop (suc j) slots)) n
 
-  pub planned-set : (x : Slot) → j < length slots → planned (set slots j x) ≡ noted (due-of j x) others
+  pub planned_set : (x : Slot) → j < length slots → planned (set slots j x) ≡ noted (due_of j x) others
   unfolding others
-  planned-set x in′ = ap (in-order due-order) (split-at x in′) ∙ put-in (due-of j x) before after
+  planned_set x in' = ap (in_order due_order) (split_at x in') ∙ put_in (due_of j x) before after
 
-  pub planned-less : j < length slots → forgotten (due-of j (getD slots j Free)) (planned slots) ≡ others
+  pub planned_less : j < length slots → forgotten (due_of j (get_or slots j Free)) (planned slots) ≡ others
   unfolding others
-  planned-less in′ =
-      let old = getD slots j Free in
-      ap (λ l. forgotten (due-of j old) (planned l)) (sym (set-getD slots j Free))
-      ∙ ap (λ l. forgotten (due-of j old) (in-order due-order l)) (split-at old in′)
-      ∙ take-out (due-of j old) before after
+  planned_less in' =
+      let old = get_or slots j Free in
+      ap (λ l. forgotten (due_of j old) (planned l)) (sym (set-get_or slots j Free))
+      ∙ ap (λ l. forgotten (due_of j old) (in_order due_order l)) (split_at old in')
+      ∙ take_out (due_of j old) before after
 
-  pub others-short : j < length slots → length slots ≤ 32 → length others < 32
+  pub others_short : j < length slots → length slots ≤ 32 → length others < 32
   unfolding others before after
-  others-short in′ small =
+  others_short in' small =
       omega (
         arith,
-        length-added due-order [] (before ++ after),
+        length_added due_order [] (before ++ after),
         length-append before after,
-        dues-short 0 (take j slots),
-        dues-short (suc j) (drop (suc j) slots),
+        dues_short 0 (take j slots),
+        dues_short (suc j) (drop (suc j) slots),
         length-take-le j slots (omega arith),
         length-drop (suc j) slots,
       )

@@ -1,110 +1,102 @@
 -- What the soonest firing of a table is: no standing slot is earlier, nor a lower one as early. Assumes nothing.
-use mathlib.Core.Path.{_≡_, refl, sym, ap, _∙_}
-use mathlib.Core.Bool.{Bool, true, false, cond}
-use mathlib.Core.List.{List, [], _∷_}
-use Prim.Native.Nat.{ℕ, zero, suc, _+_, _<_, _≤_}
-use native.Mathlib.Omega.{arith}
-use lib.Dec.{leb}
-use lib.ListN.{length, getD}
-use Rattle·std.proofs.shelf.Tests.{leb-true, leb-false}
-use Rattle·std.specs.declared.option.Option.{Option}
-use Rattle·std.specs.declared.option.Option.the-variants.{Some, None}
-use Rattle·jobs.specs.declared.Slot.{Slot}
-use Rattle·jobs.specs.declared.Slot.the-variants.{Free, Standing, Waiting}
-use Rattle·jobs.specs.declared.Firing.{Firing}
-use Rattle·slots.specs.Slots.{coming}
-use Rattle·table·specs.Table.{sooner, soonest}
+use Rattle.std.proofs.Common.{◌≡◌, ℕ, zero, suc, ◌+◌, ◌<◌, ◌≤◌, Bool, true, false, cond, leb, List, [], ◌∷◌, length, get_or, Some, None, Option, sym, refl, ap, ◌∙◌, arith}
+use Rattle.std.proofs.lemmas.Bool.{leb-true, leb-false}
+use Rattle.jobs.specs.declared.Slot.{Slot}
+use Rattle.jobs.specs.declared.Slot.TheVariants.{Free, Standing, Waiting}
+use Rattle.jobs.specs.declared.Firing.{Firing}
+use Rattle.slots.specs.Slots.{coming}
+use Rattle.table.specs.Table.{sooner, soonest}
 
 pub never : {B : Type 0} {x : B} {C : Type 0} → None ≡ Some x → C
-never e = let z : _≡_ {A = ℕ} 0 1 = cc in absurd (omega arith)
+never e = let z : ◌≡◌ {A = ℕ} 0 1 = cc in absurd (omega arith)
 
 -- the number of a slot does not matter to when it is due
-pub same-due : (s m n : ℕ) (slot : Slot) (f g : Firing) → coming s m slot ≡ Some f → coming s n slot ≡ Some g → f .due ≡ g .due
-same-due s m n Free f g p q = never p
-same-due s m n (Standing due job errand) f g p q = sym (due-is p) ∙ due-is q
+pub same_due : (s m n : ℕ) (slot : Slot) (f g : Firing) → coming s m slot ≡ Some f → coming s n slot ≡ Some g → f.due ≡ g.due
+same_due s m n Free f g p q = never p
+same_due s m n (Standing due job errand) f g p q = sym (due_is p) ∙ due_is q
   where
-    due-is : {f g : Firing} → Some f ≡ Some g → f .due ≡ g .due
-    due-is {f} {g} e = let same : f ≡ g = cc in ap (λ (x : Firing). x .due) same
-same-due s m n (Waiting due) f g p q = never p
+    due_is : {f g : Firing} → Some f ≡ Some g → f.due ≡ g.due
+    due_is {f} {g} e = let same : f ≡ g = cc in ap (λ (x : Firing). x.due) same
+same_due s m n (Waiting due) f g p q = never p
 
-same-none : (s m n : ℕ) (slot : Slot) → coming s m slot ≡ None → coming s n slot ≡ None
-same-none s m n Free p = refl
-same-none s m n (Standing due job errand) p = never (sym p)
-same-none s m n (Waiting due) p = refl
+same_none : (s m n : ℕ) (slot : Slot) → coming s m slot ≡ None → coming s n slot ≡ None
+same_none s m n Free p = refl
+same_none s m n (Standing due job errand) p = never (sym p)
+same_none s m n (Waiting due) p = refl
 
-pub coming-at : (s n : ℕ) (slot : Slot) (f : Firing) → coming s n slot ≡ Some f → f .at ≡ s
-coming-at s n Free f p = never p
-coming-at s n (Standing due job errand) f p =
-    let same : record { slot = n; due = due; at = s; action = job .action } ≡ f = cc in sym (ap (λ (x : Firing). x .at) same)
-coming-at s n (Waiting due) f p = never p
+pub coming_at : (s n : ℕ) (slot : Slot) (f : Firing) → coming s n slot ≡ Some f → f.at ≡ s
+coming_at s n Free f p = never p
+coming_at s n (Standing due job errand) f p =
+    let same : record { slot = n; due = due; at = s; action = job.action } ≡ f = cc in sym (ap (λ (x : Firing). x.at) same)
+coming_at s n (Waiting due) f p = never p
 
-pub coming-slot : (s n : ℕ) (slot : Slot) (f : Firing) → coming s n slot ≡ Some f → f .slot ≡ n
-coming-slot s n Free f p = never p
-coming-slot s n (Standing due job errand) f p =
-    let same : record { slot = n; due = due; at = s; action = job .action } ≡ f = cc in sym (ap (λ (x : Firing). x .slot) same)
-coming-slot s n (Waiting due) f p = never p
+pub coming_slot : (s n : ℕ) (slot : Slot) (f : Firing) → coming s n slot ≡ Some f → f.slot ≡ n
+coming_slot s n Free f p = never p
+coming_slot s n (Standing due job errand) f p =
+    let same : record { slot = n; due = due; at = s; action = job.action } ≡ f = cc in sym (ap (λ (x : Firing). x.slot) same)
+coming_slot s n (Waiting due) f p = never p
 
 -- f is the firing of one of the slots, which are numbered from j on: the earliest of all, and the lowest of those
 pub record Best (s j : ℕ) (slots : List Slot) (f : Firing) : Type 0 where
   pub place : ℕ
   pub within : place < length slots
-  pub number : f .slot ≡ j + place
-  pub stands : coming s (f .slot) (getD slots place Free) ≡ Some f
-  pub least : (k n : ℕ) (g : Firing) → coming s n (getD slots k Free) ≡ Some g → f .due ≤ g .due
-  pub lowest : (k n : ℕ) (g : Firing) → k < place → coming s n (getD slots k Free) ≡ Some g → f .due < g .due
+  pub number : f.slot ≡ j + place
+  pub stands : coming s f.slot (get_or slots place Free) ≡ Some f
+  pub least : (k n : ℕ) (g : Firing) → coming s n (get_or slots k Free) ≡ Some g → f.due ≤ g.due
+  pub lowest : (k n : ℕ) (g : Firing) → k < place → coming s n (get_or slots k Free) ≡ Some g → f.due < g.due
 
 abbrev pub Answer : ℕ → ℕ → List Slot → Option Firing → Type 0
-Answer s j slots None = (k n : ℕ) → coming s n (getD slots k Free) ≡ None
+Answer s j slots None = (k n : ℕ) → coming s n (get_or slots k Free) ≡ None
 Answer s j slots (Some f) = Best s j slots f
 
 module _ (s j : ℕ) (slot : Slot) (rest : List Slot) where
-  here : (f : Firing) → coming s j slot ≡ Some f → ((k n : ℕ) (g : Firing) → coming s n (getD rest k Free) ≡ Some g → f .due ≤ g .due)
+  here : (f : Firing) → coming s j slot ≡ Some f → ((k n : ℕ) (g : Firing) → coming s n (get_or rest k Free) ≡ Some g → f.due ≤ g.due)
       → Best s j (slot ∷ rest) f
   here f p later = record {
     place = 0;
     within = omega arith;
-    number = coming-slot s j slot f p ∙ omega arith;
-    stands = ap (λ n. coming s n slot) (coming-slot s j slot f p) ∙ p;
+    number = coming_slot s j slot f p ∙ omega arith;
+    stands = ap (λ n. coming s n slot) (coming_slot s j slot f p) ∙ p;
     least = least;
     lowest = λ k n g low e. absurd (omega arith);
   }
     where
-      least : (k n : ℕ) (g : Firing) → coming s n (getD (slot ∷ rest) k Free) ≡ Some g → f .due ≤ g .due
-      least zero n g e = omega (arith, same-due s j n slot f g p e)
+      least : (k n : ℕ) (g : Firing) → coming s n (get_or (slot ∷ rest) k Free) ≡ Some g → f.due ≤ g.due
+      least zero n g e = omega (arith, same_due s j n slot f g p e)
       least (suc k) n g e = later k n g e
 
-  further : (f : Firing) → ((n : ℕ) (g : Firing) → coming s n slot ≡ Some g → f .due < g .due) → Best s (suc j) rest f
+  further : (f : Firing) → ((n : ℕ) (g : Firing) → coming s n slot ≡ Some g → f.due < g.due) → Best s (suc j) rest f
       → Best s j (slot ∷ rest) f
   further f first best = record {
-    place = suc (best .place);
-    within = omega (arith, best .within);
-    number = omega (arith, best .number);
-    stands = best .stands;
+    place = suc best.place;
+    within = omega (arith, best.within);
+    number = omega (arith, best.number);
+    stands = best.stands;
     least = least;
     lowest = lowest;
   }
     where
-      least : (k n : ℕ) (g : Firing) → coming s n (getD (slot ∷ rest) k Free) ≡ Some g → f .due ≤ g .due
+      least : (k n : ℕ) (g : Firing) → coming s n (get_or (slot ∷ rest) k Free) ≡ Some g → f.due ≤ g.due
       least zero n g e = omega (arith, first n g e)
-      least (suc k) n g e = best .least k n g e
+      least (suc k) n g e = best.least k n g e
 
-      lowest : (k n : ℕ) (g : Firing) → k < suc (best .place) → coming s n (getD (slot ∷ rest) k Free) ≡ Some g → f .due < g .due
+      lowest : (k n : ℕ) (g : Firing) → k < suc best.place → coming s n (get_or (slot ∷ rest) k Free) ≡ Some g → f.due < g.due
       lowest zero n g h e = first n g e
-      lowest (suc k) n g h e = best .lowest k n g (omega arith) e
+      lowest (suc k) n g h e = best.lowest k n g (omega arith) e
 
   both : (o p : Option Firing) → coming s j slot ≡ o → Answer s (suc j) rest p → Answer s j (slot ∷ rest) (sooner o p)
   both None None e a = none
     where
-      none : (k n : ℕ) → coming s n (getD (slot ∷ rest) k Free) ≡ None
-      none zero n = same-none s j n slot e
+      none : (k n : ℕ) → coming s n (get_or (slot ∷ rest) k Free) ≡ None
+      none zero n = same_none s j n slot e
       none (suc k) n = a k n
-  both None (Some g) e a = further g (λ n h q. never (sym (same-none s j n slot e) ∙ q)) a
+  both None (Some g) e a = further g (λ n h q. never (sym (same_none s j n slot e) ∙ q)) a
   both (Some f) None e a = here f e (λ k n g q. never (sym (a k n) ∙ q))
-  both (Some f) (Some g) e a = by (leb (f .due) (g .due)) refl
+  both (Some f) (Some g) e a = by (leb f.due g.due) refl
     where
-      by : (b : Bool) → leb (f .due) (g .due) ≡ b → Answer s j (slot ∷ rest) (cond b (Some f) (Some g))
-      by true t = here f e (λ k n h q. omega (arith, leb-true _ _ t, a .least k n h q))
-      by false t = further g (λ n h q. omega (arith, leb-false _ _ t, same-due s j n slot f h e q)) a
+      by : (b : Bool) → leb f.due g.due ≡ b → Answer s j (slot ∷ rest) (cond b (Some f) (Some g))
+      by true t = here f e (λ k n h q. omega (arith, leb-true _ _ t, a.least k n h q))
+      by false t = further g (λ n h q. omega (arith, leb-false _ _ t, same_due s j n slot f h e q)) a
 
 pub answered : (s j : ℕ) (slots : List Slot) → Answer s j slots (soonest s j slots)
 answered s j [] = λ k n. refl

@@ -1,20 +1,15 @@
 -- Which slot of a table comes due first, and how far off the nearest is.
 -- Assumes nothing.
-use mathlib.Core.Bool.{cond}
-use mathlib.Core.List.{List, [], _∷_}
-use Prim.Native.Nat.{ℕ, suc, min}
-use lib.Dec.{leb}
-use Rattle·std.specs.declared.option.Option.{Option}
-use Rattle·std.specs.declared.option.Option.the-variants.{Some, None}
-use Rattle·jobs.specs.declared.Slot.{Slot}
-use Rattle·jobs.specs.declared.Firing.{Firing}
-use Rattle·slots.specs.Slots.{coming, distance}
+use Rattle.std.specs.Prelude.{ℕ, suc, min, cond, List, [], ◌∷◌, Some, None, Option, nat_le}
+use Rattle.jobs.specs.declared.Slot.{Slot}
+use Rattle.jobs.specs.declared.Firing.{Firing}
+use Rattle.slots.specs.Slots.{coming, distance}
 
 -- the earlier of two firings, the first one on a tie
 abbrev pub sooner : Option Firing → Option Firing → Option Firing
 sooner None g = g
 sooner (Some f) None = Some f
-sooner (Some f) (Some g) = cond (leb (f .due) (g .due)) (Some f) (Some g)
+sooner (Some f) (Some g) = cond (nat_le f.due g.due) (Some f) (Some g)
 
 -- of the slots, which are numbered from j on, the firing with the smallest due moment, the lower slot on a tie
 abbrev pub soonest : ℕ → ℕ → List Slot → Option Firing

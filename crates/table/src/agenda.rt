@@ -1,9 +1,7 @@
 // The queue of the standing slots, with its row.
-ghost use mathlib.Core.Path.{_≡_};
-ghost use Prim.Native.Nat.{_≤_};
-ghost use lib.ListN.{length};
-use queue::Due;
-use queue::Queue;
+ghost use Rattle.std.specs.Prelude.{◌≡◌, ◌≤◌, length};
+
+use queue::{Due, Queue};
 
 // The calls stand apart, since their contracts cite definitions over this struct.
 mod calls;
@@ -14,5 +12,5 @@ pub struct Agenda {
     queue: Queue,
     row: [Due; 32],
     ghost long: { length row ≡ 32 },
-    ghost within: { queue .count ≤ 32 },
+    ghost within: { queue.count ≤ 32 },
 }

@@ -1,23 +1,20 @@
 // What a table tells of its slots, and how one is written.
-ghost use mathlib.Core.Path.{_≡_};
-ghost use Prim.Native.Nat.{_<_};
-ghost use lib.ListN.{getD, set, replicate};
-ghost use Rattle·jobs.specs.declared.Slot.the-variants.{Free};
-ghost use Rattle·queue.specs.Row.{first};
-ghost use Rattle·table·specs.Dues.{planned, ready-slot};
-ghost use Rattle·table·specs.Table.{nearest};
+ghost use Rattle.std.specs.Prelude.{◌≡◌, ◌<◌, replicate, slice_index_or, slice_set};
+ghost use Rattle.jobs.specs.declared.Slot.TheVariants.{Free};
+ghost use Rattle.queue.specs.Row.{first};
+ghost use Rattle.table.specs.Dues.{planned, ready_slot};
+ghost use Rattle.table.specs.Table.{nearest};
+
 use crate::Table;
 use crate::agenda::Agenda;
-use crate::rows::shortest;
-use crate::rows::state_of;
-use crate::rows::store;
+use crate::rows::{shortest, state_of, store};
 use jobs::Slot;
 use queue::Due;
 
 impl Table {
     // All slots are free.
     pub fn new() -> Table
-        ensures { λ r. ⌜ r .slots ≡ replicate 32 Free ⌝ }
+        ensures { result.slots ≡ replicate 32 Free }
     {
         Table {
             slots: [Slot::Free; 32],
@@ -27,21 +24,21 @@ impl Table {
 
     // The state of one slot; a slot past the table counts as free.
     pub fn state(&self, slot: usize) -> Slot
-        ensures { λ r. ⌜ r ≡ getD (now (self .entry) .slots) slot Free ⌝ }
+        ensures { result ≡ slice_index_or self.now.slots slot Free }
     {
         state_of(&self.slots, slot)
     }
 
     fn write(&mut self, slot: usize, state: Slot)
-        requires { ⌜ slot < 32 ⌝ }
-        ensures { λ _. ⌜ now (self .exit) .slots ≡ set (now (self .entry) .slots) slot state ⌝ }
+        requires { slot < 32 }
+        ensures { self.new.slots ≡ slice_set self.old.slots slot state }
     {
         store(&mut self.slots, &mut self.agenda, slot, state);
     }
 
     // Puts a slot into a state; there is none past the table to put.
     pub fn put(&mut self, slot: usize, state: Slot)
-        ensures { λ _. ⌜ now (self .exit) .slots ≡ set (now (self .entry) .slots) slot state ⌝ }
+        ensures { self.new.slots ≡ slice_set self.old.slots slot state }
     {
         if slot < self.slots.len() {
             self.write(slot, state);
@@ -50,14 +47,14 @@ impl Table {
 
     // The standing slot that comes due first, the lower one on a tie.
     fn earliest(&self) -> Option<Due>
-        ensures { λ r. ⌜ r ≡ first (planned (now (self .entry) .slots)) ⌝ }
+        ensures { result ≡ first (planned self.now.slots) }
     {
         self.agenda.least()
     }
 
     // The slot to fire at a moment, where one is due.
     pub fn ready(&self, moment: u64) -> Option<usize>
-        ensures { λ r. ⌜ r ≡ ready-slot moment (now (self .entry) .slots) ⌝ }
+        ensures { result ≡ ready_slot moment self.now.slots }
     {
         match self.earliest() {
             Some(due) if due.moment <= moment => Some(usize::from(due.slot)),
@@ -67,7 +64,7 @@ impl Table {
 
     // The smallest distance from a moment to a due one.
     pub fn nearest(&self, moment: u64) -> Option<u64>
-        ensures { λ r. ⌜ r ≡ nearest moment (now (self .entry) .slots) ⌝ }
+        ensures { result ≡ nearest moment self.now.slots }
     {
         shortest(&self.slots, moment)
     }

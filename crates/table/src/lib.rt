@@ -1,8 +1,8 @@
 // The slot table of a logger, with the queue of the slots that stand.
-ghost use mathlib.Core.Path.{_≡_};
-ghost use lib.ListN.{length};
-ghost use Rattle·table·specs.Agenda.{agenda-dues};
-ghost use Rattle·table·specs.Dues.{planned};
+ghost use Rattle.std.specs.Prelude.{◌≡◌, length};
+ghost use Rattle.table.specs.Agenda.{agenda_dues};
+ghost use Rattle.table.specs.Dues.{planned};
+
 use crate::agenda::Agenda;
 use jobs::Slot;
 
@@ -18,5 +18,5 @@ pub struct Table {
     slots: [Slot; 32],
     agenda: Agenda,
     ghost long: { length slots ≡ 32 },
-    ghost tied: { ∥ agenda-dues agenda ≡ planned slots ∥₁ },
+    ghost tied: { ∥ agenda_dues agenda ≡ planned slots ∥₁ },
 }

@@ -1,13 +1,8 @@
 // One build of the product: a logger over its clocks, and what it has reported so far.
 use crate::halt::Halt;
-use crate::halt::HaltFromFault;
-use crate::halt::HaltFromRefused;
 use crate::report::Report;
 use clock::alarm::Alarm;
-use jobs::Action;
-use jobs::Firing;
-use jobs::Job;
-use jobs::Outcome;
+use jobs::{Action, Firing, Job, Outcome};
 use logger::logger::Logger;
 use logger::ticket::Ticket;
 use std::alloc::Global;

@@ -1,7 +1,6 @@
 // Why a run stops before its end.
 use fault::Fault;
-use fault::FaultDebug;
-use std::alloc::Refused;
+use std::alloc::AllocFailed;
 use std::io;
 
 #[derive(Debug, Drop)]
@@ -12,20 +11,20 @@ pub enum Halt {
     Memory,
 }
 
-pub impl From<Fault> for Halt as HaltFromFault {
+impl From<Fault> for Halt {
     fn from(fault: Fault) -> Halt {
         Halt::Call(fault)
     }
 }
 
-pub impl From<io::Error> for Halt as HaltFromIo {
+impl From<io::Error> for Halt {
     fn from(error: io::Error) -> Halt {
         Halt::Output(error)
     }
 }
 
-pub impl<T: Drop> From<Refused<T>> for Halt as HaltFromRefused {
-    fn from(_value: Refused<T>) -> Halt {
+impl<T: Drop> From<AllocFailed<T>> for Halt {
+    fn from(_value: AllocFailed<T>) -> Halt {
         Halt::Memory
     }
 }

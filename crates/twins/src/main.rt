@@ -11,31 +11,18 @@ mod twins;
 
 use clock::alarm::Alarm;
 use down::Count;
-use down::DownAlarm;
-use down::DownClock;
 use fault::Fault;
 use halt::Halt;
-use halt::HaltDebug;
-use halt::HaltFromFault;
-use offset::OffsetAlarm;
-use offset::OffsetClock;
-use rate::RateAlarm;
-use rate::RateClock;
 use slots::moment::Moment;
-use twins::START;
-use twins::Twins;
-use up::UpAlarm;
-use up::UpClock;
+use twins::{START, Twins};
 use up::Word;
-use widening::WideningAlarm;
-use widening::WideningClock;
 
-fn main(rt: LibcRuntime) -> Result<(), Halt> {
-    rt.report(run(&rt, stacks::up(), stacks::down()))
+fn main(rt: HostRuntime) -> Result<(), Halt> {
+    run(&rt, stacks::up(), stacks::down())
 }
 
 fn run<U: Alarm<Sample = Word> + Drop, D: Alarm<Sample = Count> + Drop>(
-    rt: &LibcRuntime,
+    rt: &HostRuntime,
     up: Result<U, Fault>,
     down: Result<D, Fault>,
 ) -> Result<(), Halt> {

@@ -1,23 +1,11 @@
 // The clocks of the two builds, which differ in their counters and in their layers.
-use crate::samples::DOWN_FIRST;
-use crate::samples::UP_FIRST;
-use down::DownAlarm;
-use down::DownClock;
+use crate::samples::{DOWN_FIRST, UP_FIRST};
 use down::DownCounter;
 use fault::Fault;
-use offset::Offset;
-use offset::Shift;
-use rate::Rate;
-use rate::RateAlarm;
-use rate::RateClock;
-use rate::Ratio;
-use up::UpAlarm;
-use up::UpClock;
+use offset::{Offset, Shift};
+use rate::{Rate, Ratio};
 use up::UpCounter;
-use widening::Bits;
-use widening::Widening;
-use widening::WideningAlarm;
-use widening::WideningClock;
+use widening::{Bits, Widening};
 
 pub type Up = Rate<Widening<UpCounter>>;
 

@@ -1,24 +1,11 @@
 // The two builds, and the table of what they report of the job.
-use crate::build::Build;
-use crate::build::SHARED_SLOT;
+use crate::build::{Build, SHARED_SLOT};
 use crate::halt::Halt;
-use crate::halt::HaltFromFault;
-use crate::halt::HaltFromIo;
 use crate::report::Report;
-use crate::report::ReportDisplay;
-use crate::samples::AFTER;
-use crate::samples::BEFORE;
-use crate::samples::DURING;
-use crate::samples::STRAY;
-use crate::samples::Samples;
+use crate::samples::{AFTER, BEFORE, DURING, STRAY, Samples};
 use clock::alarm::Alarm;
 use down::Count;
-use fault::FaultDisplay;
-use jobs::Action;
-use jobs::FiringPartialEq;
-use jobs::Job;
-use jobs::Kind;
-use jobs::Outcome;
+use jobs::{Action, Job, Kind, Outcome};
 use logger::logger::Logger;
 use promise::start_alike;
 use slots::moment::Moment;
@@ -81,7 +68,7 @@ impl<U: Alarm<Sample = Word>, D: Alarm<Sample = Count>> Twins<U, D> {
         }
     }
 
-    pub fn run(&mut self, rt: &LibcRuntime) -> Result<(), Halt> {
+    pub fn run(&mut self, rt: &HostRuntime) -> Result<(), Halt> {
         self.begin(rt)?;
         self.rows(rt, &BEFORE)?;
         self.stray(rt)?;
@@ -92,20 +79,20 @@ impl<U: Alarm<Sample = Word>, D: Alarm<Sample = Count>> Twins<U, D> {
     }
 
     // Sets the shared job up in both, between other jobs of each.
-    fn begin(&mut self, rt: &LibcRuntime) -> Result<(), Halt> {
+    fn begin(&mut self, rt: &HostRuntime) -> Result<(), Halt> {
         self.show_start(rt)?;
         begin_up(&mut self.up)?;
         begin_down(&mut self.down)?;
-        println!(rt, "moment | up | down")?;
+        println!(rt; "moment | up | down")?;
         Ok(())
     }
 
-    fn show_start(&self, rt: &LibcRuntime) -> io::Result<()> {
+    fn show_start(&self, rt: &HostRuntime) -> io::Result<()> {
         let alike = yes(start_alike(self.up.logger(), self.down.logger()));
-        println!(rt, "start {START}, alike {alike}")
+        println!(rt; "start {START}, alike {alike}")
     }
 
-    fn rows(&mut self, rt: &LibcRuntime, rows: &[Samples]) -> Result<(), Halt> {
+    fn rows(&mut self, rt: &HostRuntime, rows: &[Samples]) -> Result<(), Halt> {
         for samples in rows {
             let moment = self.serve(*samples)?;
             self.show(rt, moment)?;
@@ -121,7 +108,7 @@ impl<U: Alarm<Sample = Word>, D: Alarm<Sample = Count>> Twins<U, D> {
     }
 
     // A line for each new report of the job, or one where there is none.
-    fn show(&mut self, rt: &LibcRuntime, moment: u64) -> io::Result<()> {
+    fn show(&mut self, rt: &HostRuntime, moment: u64) -> io::Result<()> {
         let most = self.up.reports().len().max(self.down.reports().len());
         for i in self.shown..most.max(self.shown.saturating_add(1)) {
             show_row(rt, moment, self.up.report(i), self.down.report(i))?;
@@ -131,17 +118,17 @@ impl<U: Alarm<Sample = Word>, D: Alarm<Sample = Count>> Twins<U, D> {
     }
 
     // The second build is shown a sample that its counter never shows.
-    fn stray(&mut self, rt: &LibcRuntime) -> Result<(), Halt> {
+    fn stray(&mut self, rt: &HostRuntime) -> Result<(), Halt> {
         match self.down.serve(STRAY) {
-            Ok(moment) => println!(rt, "down: served {moment}")?,
-            Err(Halt::Call(fault)) => println!(rt, "down: {fault}")?,
+            Ok(moment) => println!(rt; "down: served {moment}")?,
+            Err(Halt::Call(fault)) => println!(rt; "down: {fault}")?,
             Err(halt) => return Err(halt),
         }
         Ok(())
     }
 
     // Rows with an errand in the first build.
-    fn rows_with_errand(&mut self, rt: &LibcRuntime, rows: &[Samples]) -> Result<(), Halt> {
+    fn rows_with_errand(&mut self, rt: &HostRuntime, rows: &[Samples]) -> Result<(), Halt> {
         let ticket = self.up.errand(7, 8, Action::Read { channel: 5 })?;
         let shown = self.rows(rt, rows);
         // before anything can fail, since a ticket cannot be let go
@@ -152,14 +139,14 @@ impl<U: Alarm<Sample = Word>, D: Alarm<Sample = Count>> Twins<U, D> {
     }
 
     // The second build calls a job of its own off.
-    fn call_off(&mut self, rt: &LibcRuntime) -> Result<(), Halt> {
+    fn call_off(&mut self, rt: &HostRuntime) -> Result<(), Halt> {
         let due = self.down.call_off(READS_SLOT)?;
-        println!(rt, "down: called off {due}")?;
+        println!(rt; "down: called off {due}")?;
         Ok(())
     }
 
     // Ends the job in both, and says whether it fired alike.
-    fn finish(&mut self, rt: &LibcRuntime) -> Result<(), Halt> {
+    fn finish(&mut self, rt: &HostRuntime) -> Result<(), Halt> {
         let up = self.up.call_off(SHARED_SLOT)?;
         let down = self.down.call_off(SHARED_SLOT)?;
         show_pair(rt, "called off", up, down)?;
@@ -167,11 +154,11 @@ impl<U: Alarm<Sample = Word>, D: Alarm<Sample = Count>> Twins<U, D> {
         Ok(())
     }
 
-    fn show_totals(&self, rt: &LibcRuntime) -> io::Result<()> {
+    fn show_totals(&self, rt: &HostRuntime) -> io::Result<()> {
         show_pair(rt, "other firings", self.up.others(), self.down.others())?;
         show_pair(rt, "longest hold", self.up.longest(), self.down.longest())?;
         let agreed = yes(self.together && self.up.reports() == self.down.reports());
-        println!(rt, "firings agreed: {agreed}")
+        println!(rt; "firings agreed: {agreed}")
     }
 }
 
@@ -188,16 +175,16 @@ fn begin_down<D: Alarm>(down: &mut Build<D>) -> Result<(), Halt> {
     down.hold()
 }
 
-fn show_row(rt: &LibcRuntime, moment: u64, up: Report, down: Report) -> io::Result<()> {
-    println!(rt, "{moment} | {up} | {down}")
+fn show_row(rt: &HostRuntime, moment: u64, up: Report, down: Report) -> io::Result<()> {
+    println!(rt; "{moment} | {up} | {down}")
 }
 
-fn show_outcome(rt: &LibcRuntime, outcome: Outcome) -> io::Result<()> {
+fn show_outcome(rt: &HostRuntime, outcome: Outcome) -> io::Result<()> {
     let due = outcome.due;
     let fired = yes(outcome.fired);
-    println!(rt, "up: settled {due} {fired}")
+    println!(rt; "up: settled {due} {fired}")
 }
 
-fn show_pair(rt: &LibcRuntime, what: &str, up: u64, down: u64) -> io::Result<()> {
-    println!(rt, "{what} | {up} | {down}")
+fn show_pair(rt: &HostRuntime, what: &str, up: u64, down: u64) -> io::Result<()> {
+    println!(rt; "{what} | {up} | {down}")
 }

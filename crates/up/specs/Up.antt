@@ -1,20 +1,16 @@
 -- The up-counter of w bits: its sample is the raw reading, and it gains one tick with each true tick.
 -- Assumes nothing.
-use mathlib.Core.Bool.{Bool, true, false, cond, _&&_}
-use Prim.Native.Nat.{ℕ, _+_, _^_}
-use lib.Dec.{leb, ltb}
-use Rattle·std.specs.declared.result.Result.{Result}
-use Rattle·std.specs.declared.result.Result.the-variants.{Ok, Err}
-use Rattle·fault.specs.declared.Fault.{Fault}
-use Rattle·fault.specs.Table.{stray-sample, bad-device}
-use Rattle·clock.specs.Wrap.{plus}
-use Rattle·clock.specs.Meaning.{Meaning, total}
-use Rattle·clock.specs.declared.appointment.Appointment.{Appointment}
-use Rattle·clock.specs.declared.appointment.Appointment.the-variants.{Idle}
-use Rattle·up·specs.declared.up.Word.{Word}
+use Rattle.std.specs.Prelude.{ℕ, ◌+◌, ◌^◌, Bool, true, false, cond, ◌&&◌, Ok, Err, Result, nat_le, nat_lt}
+use Rattle.fault.specs.declared.Fault.{Fault}
+use Rattle.fault.specs.Table.{stray_sample, bad_device}
+use Rattle.clock.specs.Wrap.{plus}
+use Rattle.clock.specs.Meaning.{Meaning, total}
+use Rattle.clock.specs.declared.appointment.Appointment.{Appointment}
+use Rattle.clock.specs.declared.appointment.Appointment.TheVariants.{Idle}
+use Rattle.up.specs.declared.up.Word.{Word}
 
-abbrev pub up-meaning : ℕ → ℕ → ℕ → Meaning Word
-up-meaning w reading tag = record {
+abbrev pub up_meaning : ℕ → ℕ → ℕ → Meaning Word
+up_meaning w reading tag = record {
   width = w;
   reading = reading;
   reach = 2 ^ w;
@@ -24,8 +20,8 @@ up-meaning w reading tag = record {
 }
 
 -- a width from 8 to 32, then a first sample below 2^w
-abbrev pub up-made : ℕ → ℕ → ℕ → Result (Meaning Word × Appointment) Fault
-up-made w first tag =
-    cond (leb 8 w && leb w 32)
-    (cond (ltb first (2 ^ w)) (Ok (up-meaning w first tag, Idle)) (Err (stray-sample tag)))
-    (Err (bad-device tag))
+abbrev pub up_made : ℕ → ℕ → ℕ → Result (Meaning Word × Appointment) Fault
+up_made w first tag =
+    cond (nat_le 8 w && nat_le w 32)
+    (cond (nat_lt first (2 ^ w)) (Ok (up_meaning w first tag, Idle)) (Err (stray_sample tag)))
+    (Err (bad_device tag))

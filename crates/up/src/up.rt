@@ -1,19 +1,19 @@
 // A free-running counter that counts up and wraps at 2^width.
-ghost use mathlib.Core.Path.{_≡_};
-ghost use Prim.Native.Nat.{_^_, _<_, _≤_};
-ghost use Rattle·clock.specs.Calls.{Accepted};
-ghost use Rattle·clock.specs.Hold.{wait-for};
-ghost use Rattle·clock.specs.Kept.{within};
-ghost use Rattle·clock.specs.Making.{seen};
-ghost use Rattle·clock.specs.Wrap.{minus};
-ghost use Rattle·up·specs.Up.{up-meaning, up-made};
-use clock::alarm::Alarm;
-use clock::alarm::Clock;
+ghost use Rattle.std.specs.Prelude.{◌≡◌, ◌^◌, ◌<◌, ◌≤◌};
+ghost use Rattle.clock.specs.Calls.{Accepted};
+ghost use Rattle.clock.specs.Hold.{wait_for};
+ghost use Rattle.clock.specs.Kept.{within};
+ghost use Rattle.clock.specs.Making.{seen};
+ghost use Rattle.clock.specs.Wrap.{minus};
+ghost use Rattle.up.specs.Up.{up_meaning, up_made};
+ghost use Rattle.up.specs.UpCounters.{up_lawful};
+ghost use Rattle.std.proofs.Common.{rules, arith};
+
+use clock::alarm::{Alarm, Clock};
 use clock::appointment::Appointment;
 use clock::kept::Kept;
 use clock::width::Width;
-use fault::Cause;
-use fault::Fault;
+use fault::{Cause, Fault};
 
 // A raw reading of the counter's register.
 #[derive(Clone, Copy, PartialEq, Eq, Debug)]
@@ -26,15 +26,15 @@ pub struct UpCounter {
     last: u32,
     tag: u8,
     kept: Kept,
-    ghost wide: { 8 ≤ width .bits },
-    ghost narrow: { width .bits ≤ 32 },
-    ghost fits: { last < 2 ^ width .bits },
+    ghost wide: { 8 ≤ width.bits },
+    ghost narrow: { width.bits ≤ 32 },
+    ghost fits: { last < 2 ^ width.bits },
 }
 
 impl UpCounter {
     // A counter of so many bits, 8 to 32, that shows `first` now.
     pub fn new(bits: u32, first: Word, tag: u8) -> Result<UpCounter, Fault>
-        ensures { λ r. ⌜ seen (λ c. (up-meaning (c .width .bits) (c .last) (c .tag), within (c .width .bits) (c .kept .appointment))) r ≡ up-made bits (first .0) tag ⌝ }
+        ensures { seen (λ c. (up_meaning c.width.bits c.last c.tag, within c.width.bits c.kept.appointment)) result ≡ up_made bits first.0 tag }
     {
         if bits < 8 || bits > 32 {
             return Err(Fault::in_device(Cause::BadSetting, tag));
@@ -55,8 +55,8 @@ impl UpCounter {
 impl UpCounter {
     // Moves on to a sample that the counter can show, this many ticks after the last.
     fn accept(&mut self, sample: Word, gained: u64)
-        requires { ⌜ sample .0 < 2 ^ now self .width .bits ⌝ ∗ ⌜ gained ≡ minus (now self .width .bits) (sample .0) (now self .last) ⌝ }
-        ensures { λ _. ⌜ Accepted (up-meaning (now (self .entry) .width .bits) (now (self .entry) .last) (now (self .entry) .tag)) (within (now (self .entry) .width .bits) (now (self .entry) .kept .appointment)) sample gained (up-meaning (now (self .exit) .width .bits) (now (self .exit) .last) (now (self .exit) .tag)) (within (now (self .exit) .width .bits) (now (self .exit) .kept .appointment)) ⌝ }
+        requires { (sample.0 < 2 ^ self.old.width.bits) × (gained ≡ minus self.old.width.bits sample.0 self.old.last) }
+        ensures { Accepted (up_meaning self.old.width.bits self.old.last self.old.tag) (within self.old.width.bits self.old.kept.appointment) sample gained (up_meaning self.new.width.bits self.new.last self.new.tag) (within self.new.width.bits self.new.kept.appointment) }
     {
         let from = u64::from(self.last);
         self.last = sample.0;
@@ -65,16 +65,18 @@ impl UpCounter {
 
     // A tick of this clock is a true tick.
     fn wait(&self, left: u64) -> u64
-        ensures { λ r. ⌜ r ≡ wait-for (up-meaning (now (self .entry) .width .bits) (now (self .entry) .last) (now (self .entry) .tag)) left ⌝ }
+        ensures { result ≡ wait_for (up_meaning self.now.width.bits self.now.last self.now.tag) left }
     {
         left.min(self.width.turn() - 1)
     }
 }
 
-pub impl Clock for UpCounter as UpClock {
+impl Clock for UpCounter {
     type Sample = Word;
 
-    ghost meaning = { λ c. up-meaning (c .width .bits) (c .last) (c .tag) };
+    ghost meaning = { λ c. up_meaning c.width.bits c.last c.tag };
+
+    ghost lawful = { λ x. up_lawful x.width.bits x.last x.tag x.wide x.narrow x.fits };
 
     fn width(&self) -> u32 {
         self.width.bits
@@ -89,8 +91,10 @@ pub impl Clock for UpCounter as UpClock {
     }
 }
 
-pub impl Alarm for UpCounter as UpAlarm {
-    ghost appointment = { λ c. within (c .width .bits) (c .kept .appointment) };
+impl Alarm for UpCounter {
+    ghost appointment = { λ c. within c.width.bits c.kept.appointment };
+
+    ghost sound = { first_of (Prim.search rules, Prim.grind (arith, Self.row.coded.inj)) };
 
     fn take(&mut self, sample: Word) -> Result<u64, Fault> {
         let shown = u64::from(sample.0);

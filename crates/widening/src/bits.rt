@@ -1,10 +1,9 @@
 // What the layer is made with. Its limits are judged here, so that the making of a layer cannot be refused.
-ghost use mathlib.Core.Path.{_≡_};
-ghost use Prim.Native.Nat.{_≤_};
-ghost use Rattle·clock.specs.Making.{seen};
-ghost use Rattle·widening·specs.Bits.{bits-made};
-use fault::Cause;
-use fault::Fault;
+ghost use Rattle.std.specs.Prelude.{◌≡◌, ◌≤◌};
+ghost use Rattle.clock.specs.Making.{seen};
+ghost use Rattle.widening.specs.Bits.{bits_made};
+
+use fault::{Cause, Fault};
 
 // By how many bits a reading is widened.
 #[derive(Clone, Copy)]
@@ -17,7 +16,7 @@ pub struct Bits {
 impl Bits {
     // 1 to 32 bits.
     pub fn new(count: u32) -> Result<Bits, Fault>
-        ensures { λ r. ⌜ seen (λ b. b .count) r ≡ bits-made count ⌝ }
+        ensures { seen (λ b. b.count) result ≡ bits_made count }
     {
         if count < 1 || count > 32 {
             return Err(Fault::in_alarm(Cause::BadSetting));

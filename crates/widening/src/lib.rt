@@ -4,5 +4,3 @@ mod widening;
 
 pub use bits::Bits;
 pub use widening::Widening;
-pub use widening::WideningAlarm;
-pub use widening::WideningClock;

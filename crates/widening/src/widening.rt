@@ -1,13 +1,14 @@
 // A layer that widens the reading of the alarm below: further bits count how often it has wrapped.
-ghost use mathlib.Core.Path.{_≡_};
-ghost use Prim.Native.Nat.{_+_, _*_, _%_, _^_, _<_, _≤_};
-ghost use Rattle·clock.specs.Appointment.{after-take};
-ghost use Rattle·clock.specs.Kept.{within};
-ghost use Rattle·widening·specs.Widening.{widened-width, widening-meaning, carry-after};
-ghost use Rattle·clock.specs.declared.appointment.Appointment.the-variants.{Idle};
+ghost use Rattle.std.specs.Prelude.{◌≡◌, ◌+◌, ◌*◌, ◌%◌, ◌^◌, ◌<◌, ◌≤◌};
+ghost use Rattle.clock.specs.Appointment.{after_take};
+ghost use Rattle.clock.specs.Kept.{within};
+ghost use Rattle.widening.specs.Widening.{widened_width, widening_meaning, carry_after};
+ghost use Rattle.clock.specs.declared.appointment.Appointment.TheVariants.{Idle};
+ghost use Rattle.widening.specs.WidenedLemmas.{widening_lawful};
+ghost use Rattle.std.proofs.Common.{rules, arith};
+
 use crate::bits::Bits;
-use clock::alarm::Alarm;
-use clock::alarm::Clock;
+use clock::alarm::{Alarm, Clock};
 use clock::appointment::Appointment;
 use clock::kept::Kept;
 use clock::wait::ticks_until;
@@ -24,14 +25,14 @@ pub struct Widening<A: Alarm> {
     // how often the reading below has wrapped, modulo 2^bits
     carry: u64,
     kept: Kept,
-    ghost small: { carry < 2 ^ bits .count },
+    ghost small: { carry < 2 ^ bits.count },
 }
 
 impl<A: Alarm> Widening<A> {
     // An idle layer with no wrap counted yet.
     pub fn new(below: A, bits: Bits) -> Widening<A>
-        ensures clock { λ r. ⌜ widening-meaning (A·Clock .meaning (r .below)) (r .bits .count) (r .carry) ≡ widening-meaning (A·Clock .meaning below) (bits .count) 0 ⌝ }
-        ensures appointment { λ r. ⌜ within (widened-width (A·Clock .meaning (r .below) .width) (r .bits .count)) (r .kept .appointment) ≡ Idle ⌝ }
+        ensures clock { widening_meaning (A.Clock.meaning result.below) result.bits.count result.carry ≡ widening_meaning (A.Clock.meaning below) bits.count 0 }
+        ensures appointment { within (widened_width (A.Clock.meaning result.below).width result.bits.count) result.kept.appointment ≡ Idle }
     {
         Widening {
             below,
@@ -42,7 +43,7 @@ impl<A: Alarm> Widening<A> {
     }
 
     fn wide(&self) -> Width
-        ensures { λ r. ⌜ r .bits ≡ widened-width (A·Clock .meaning (now (self .entry) .below) .width) (now (self .entry) .bits .count) ⌝ }
+        ensures { result.bits ≡ widened_width (A.Clock.meaning self.now.below).width self.now.bits.count }
     {
         Width {
             bits: WIDEST.min(self.below.width() + self.bits.count),
@@ -51,10 +52,10 @@ impl<A: Alarm> Widening<A> {
 
     // Moves the layer's own parts on by a take below.
     fn follow(&mut self, width: Width, from: u64, wrapped: bool, gained: u64)
-        ensures below { λ _. ⌜ now (self .exit) .below ≡ now (self .entry) .below ⌝ }
-        ensures bits { λ _. ⌜ now (self .exit) .bits .count ≡ now (self .entry) .bits .count ⌝ }
-        ensures carry { λ _. ⌜ now (self .exit) .carry ≡ carry-after (now (self .entry) .bits .count) (now (self .entry) .carry) wrapped ⌝ }
-        ensures kept { λ _. ⌜ within (width .bits) (now (self .exit) .kept .appointment) ≡ after-take (width .bits) from gained (within (width .bits) (now (self .entry) .kept .appointment)) ⌝ }
+        ensures below { self.new.below ≡ self.old.below }
+        ensures bits { self.new.bits.count ≡ self.old.bits.count }
+        ensures carry { self.new.carry ≡ carry_after self.old.bits.count self.old.carry wrapped }
+        ensures kept { within width.bits self.new.kept.appointment ≡ after_take width.bits from gained (within width.bits self.old.kept.appointment) }
     {
         if wrapped {
             self.carry = (self.carry + 1) % (1 << self.bits.count);
@@ -65,8 +66,8 @@ impl<A: Alarm> Widening<A> {
 
 // The carry above a reading of `low` bits: as much of it as the width has place for.
 fn joined(width: Width, low: Width, carry: u64, reading: u64) -> u64
-    requires { ⌜ low .bits ≤ width .bits ⌝ ∗ ⌜ reading < 2 ^ low .bits ⌝ }
-    ensures { λ r. ⌜ r ≡ (carry * 2 ^ low .bits + reading) % 2 ^ width .bits ⌝ }
+    requires { (low.bits ≤ width.bits) × (reading < 2 ^ low.bits) }
+    ensures { result ≡ (carry * 2 ^ low.bits + reading) % 2 ^ width.bits }
 {
     let above = Width {
         bits: width.bits - low.bits,
@@ -74,10 +75,12 @@ fn joined(width: Width, low: Width, carry: u64, reading: u64) -> u64
     (carry % above.turn()) * low.turn() + reading
 }
 
-pub impl<A: Alarm> Clock for Widening<A> as WideningClock {
+impl<A: Alarm> Clock for Widening<A> {
     type Sample = A::Sample;
 
-    ghost meaning = { λ x. widening-meaning (A·Clock .meaning (x .below)) (x .bits .count) (x .carry) };
+    ghost meaning = { λ x. widening_meaning (A.Clock.meaning x.below) x.bits.count x.carry };
+
+    ghost lawful = { λ x. widening_lawful (A.Clock.meaning x.below) (A.Clock.lawful x.below) x.bits.count x.carry };
 
     fn width(&self) -> u32 {
         self.wide().bits
@@ -97,8 +100,10 @@ pub impl<A: Alarm> Clock for Widening<A> as WideningClock {
     }
 }
 
-pub impl<A: Alarm> Alarm for Widening<A> as WideningAlarm {
-    ghost appointment = { λ x. within (widened-width (A·Clock .meaning (x .below) .width) (x .bits .count)) (x .kept .appointment) };
+impl<A: Alarm> Alarm for Widening<A> {
+    ghost appointment = { λ x. within (widened_width (A.Clock.meaning x.below).width x.bits.count) x.kept.appointment };
+
+    ghost sound = { first_of (Prim.search rules, Prim.grind (arith, Self.row.coded.inj)) };
 
     fn take(&mut self, sample: A::Sample) -> Result<u64, Fault> {
         let width = self.wide();

@@ -1,17 +1,14 @@
 // The pieces of a text, the words of a line, and the numbers among them.
-ghost use mathlib.Core.Path.{_≡_};
-ghost use mathlib.Core.Bool.{true};
-ghost use Prim.Native.Nat.{_≤_, _<_};
-ghost use lib.ListN.{length};
-ghost use Rattle·std.specs.Options.{mapped};
-ghost use Rattle·std.specs.shelf.Lists.{leading};
-ghost use Rattle·words·specs.Cuts.{other, first-piece};
-ghost use Rattle·words·specs.Words.{words-of, remaining, first-of, others-of};
-ghost use Rattle·words·specs.Number.{plain, number-of};
+ghost use Rattle.std.specs.Prelude.{◌≡◌, ◌<◌, ◌≤◌, true, length};
+ghost use Rattle.std.specs.Option.{option_map};
+ghost use Rattle.std.specs.List.{prefix_len};
+ghost use Rattle.words.specs.Cuts.{other, first_piece};
+ghost use Rattle.words.specs.Words.{words_of, remaining, first_of, others_of};
+ghost use Rattle.words.specs.Number.{plain, number_of};
 
 // A number in decimal, of any length: `0`, or digits with no 0 in front. One too large for 64 bits counts as the largest.
 pub fn number(word: &[u8]) -> Option<u64>
-    ensures { λ r. ⌜ r ≡ number-of (now (word .entry)) ⌝ }
+    ensures { result ≡ number_of word.now }
 {
     if !is_plain(word) {
         return None;
@@ -28,7 +25,7 @@ pub fn number(word: &[u8]) -> Option<u64>
 
 // Whether there are bytes, and no 0 stands in front of others.
 fn is_plain(word: &[u8]) -> bool
-    ensures { λ r. ⌜ r ≡ plain (now (word .entry)) ⌝ }
+    ensures { result ≡ plain word.now }
 {
     match word {
         [] => false,
@@ -46,7 +43,7 @@ pub struct Words<'a> {
 
 impl<'a> Words<'a> {
     pub fn of(line: &'a [u8]) -> Words<'a>
-        ensures { λ r. ⌜ remaining (now (r .rest)) (r .more) ≡ words-of (now (line .entry)) ⌝ }
+        ensures { remaining result.rest.now result.more ≡ words_of line.now }
     {
         Words {
             rest: line,
@@ -56,8 +53,8 @@ impl<'a> Words<'a> {
 
     // The next word, or none where all have been read.
     pub fn next(&mut self) -> Option<&'a [u8]>
-        ensures word { λ r. ⌜ mapped now r ≡ first-of (remaining (now (now (self .entry) .rest)) (now (self .entry) .more)) ⌝ }
-        ensures rest { λ r. ⌜ remaining (now (now (self .exit) .rest)) (now (self .exit) .more) ≡ others-of (remaining (now (now (self .entry) .rest)) (now (self .entry) .more)) ⌝ }
+        ensures word { option_map (λ x. x.now) result ≡ first_of (remaining self.old.rest.now self.old.more) }
+        ensures rest { remaining self.new.rest.now self.new.more ≡ others_of (remaining self.old.rest.now self.old.more) }
     {
         if !self.more {
             return None;
@@ -75,16 +72,16 @@ impl<'a> Words<'a> {
 
 // What stands before the first byte `stop`, or the whole text where there is none.
 pub fn piece(text: &[u8], stop: u8) -> &[u8]
-    ensures piece { λ r. ⌜ now r ≡ first-piece stop (now (text .entry)) ⌝ }
-    ensures within { λ r. ⌜ length (now r) ≤ length (now (text .entry)) ⌝ }
+    ensures piece { result.now ≡ first_piece stop text.now }
+    ensures within { length result.now ≤ length text.now }
 {
     &text[0..length_before(text, stop)]
 }
 
 // How many bytes that is.
 fn length_before(text: &[u8], stop: u8) -> usize
-    ensures answer { λ r. ⌜ r ≡ leading (other stop) (now (text .entry)) ⌝ }
-    ensures within { λ r. ⌜ r ≤ length (now (text .entry)) ⌝ }
+    ensures answer { result ≡ prefix_len (other stop) text.now }
+    ensures within { result ≤ length text.now }
 {
     for (i, b) in text.iter().enumerate() {
         if *b == stop {

@@ -1,33 +1,26 @@
 // The worked numbers of the library: shown against the definitions, and run through the code.
-ghost use mathlib.Core.Path.{_≡_};
-ghost use lib.ListN.{length};
-ghost use Rattle·std.specs.declared.result.Result.the-variants.{Ok};
-ghost use Rattle·worked·specs.Cases.{cases, All-true};
+ghost use Rattle.std.specs.Prelude.{◌≡◌, length, Ok};
+ghost use Rattle.worked.specs.Cases.{cases, All_true};
+
 use clock::alarm::Alarm;
 use fault::Fault;
-use rate::Rate;
-use rate::RateAlarm;
-use rate::RateClock;
-use rate::Ratio;
-use up::UpAlarm;
-use up::UpClock;
-use up::UpCounter;
-use up::Word;
+use rate::{Rate, Ratio};
+use up::{UpCounter, Word};
 
 #[cfg(test)]
 mod tests;
 
 // How many worked numbers there are; each of them holds of the definitions.
 pub fn worked_numbers() -> usize
-    ensures count { λ r. ⌜ r ≡ length cases ⌝ }
-    ensures all { λ _. ⌜ All-true cases ⌝ }
+    ensures count { result ≡ length cases }
+    ensures all { All_true cases }
 {
     18
 }
 
 // What three true ticks gain at the rate 2/3 above the rate 1/2: each layer rounds for itself, so it is nothing yet.
 pub fn two_rates() -> Result<u64, Fault>
-    ensures { λ r. ⌜ r ≡ Ok 0 ⌝ }
+    ensures { result ≡ Ok 0 }
 {
     let counter = UpCounter::new(8, Word(0), 0)?;
     let half = Rate::new(counter, Ratio::new(1, 2)?);

@@ -3,88 +3,77 @@ use super::*;
 use clock::alarm::Clock;
 use clock::appointment::Appointment;
 use clock::lead::lead;
-use down::Count;
-use down::DownAlarm;
-use down::DownClock;
-use down::DownCounter;
+use down::{Count, DownCounter};
 use fault::Cause;
-use fault::FaultDebug;
-use fault::FaultPartialEq;
-use jobs::Action;
-use jobs::Firing;
-use jobs::FiringDebug;
-use jobs::FiringPartialEq;
-use jobs::Job;
-use jobs::Kind;
+use jobs::{Action, Firing, Job, Kind};
 use listing::listing;
 use logger::logger::Logger;
-use offset::Offset;
-use offset::OffsetAlarm;
-use offset::OffsetClock;
-use offset::Shift;
+use offset::{Offset, Shift};
 use slots::moment::Moment;
-use std::test::*;
-use widening::Bits;
-use widening::Widening;
-use widening::WideningAlarm;
-use widening::WideningClock;
+use std::test::Fail;
+use widening::{Bits, Widening};
 
 #[test]
-fn an_up_counter() -> Result<(), Fail> {
+fn an_up_counter(rt: HostRuntime) -> Result<(), Fail> {
     let mut up = UpCounter::new(8, Word(250), 0)?;
-    check_eq(
+    assert_eq!(rt;
         up.take(Word(256)),
-        Err(Fault::in_device(Cause::StraySample, 0)),
-    )?;
-    check_eq(up.take(Word(4)), Ok(10))
+        Err(Fault::in_device(Cause::StraySample, 0))
+    );
+    assert_eq!(rt; up.take(Word(4)), Ok(10));
+    Ok(())
 }
 
 #[test]
-fn a_widened_counter() -> Result<(), Fail> {
+fn a_widened_counter(rt: HostRuntime) -> Result<(), Fail> {
     let mut wide = widened(250)?;
-    check_eq(wide.reading(), 250)?;
-    check_eq(wide.take(Word(4)), Ok(10))?;
-    check_eq(wide.reading(), 260)
+    assert_eq!(rt; wide.reading(), 250);
+    assert_eq!(rt; wide.take(Word(4)), Ok(10));
+    assert_eq!(rt; wide.reading(), 260);
+    Ok(())
 }
 
 #[test]
-fn a_down_counter() -> Result<(), Fail> {
+fn a_down_counter(rt: HostRuntime) -> Result<(), Fail> {
     let mut down = DownCounter::new(99, Count(30), 0)?;
-    check_eq(
+    assert_eq!(rt;
         down.take(Count(100)),
-        Err(Fault::in_device(Cause::StraySample, 0)),
-    )?;
-    check_eq(down.take(Count(99)), Ok(31))
+        Err(Fault::in_device(Cause::StraySample, 0))
+    );
+    assert_eq!(rt; down.take(Count(99)), Ok(31));
+    Ok(())
 }
 
 #[test]
-fn alarms() -> Result<(), Fail> {
+fn alarms(rt: HostRuntime) -> Result<(), Fail> {
     let mut alarm = UpCounter::new(8, Word(10), 0)?;
     alarm.set(250, 20)?;
-    check_eq(alarm.hold(), 4)?;
-    check(alarm.stop())?;
+    assert_eq!(rt; alarm.hold(), 4);
+    assert!(rt; alarm.stop());
     alarm.set(250, 16)?;
-    check_eq(alarm.claim(), Some(10))
+    assert_eq!(rt; alarm.claim(), Some(10));
+    Ok(())
 }
 
 #[test]
-fn rates() -> Result<(), Fail> {
+fn rates(rt: HostRuntime) -> Result<(), Fail> {
     let mut slow = Rate::new(UpCounter::new(8, Word(0), 0)?, Ratio::new(125, 4096)?);
     slow.set(0, 1)?;
-    check_eq(slow.hold(), 33)?;
-    check(slow.stop())?;
+    assert_eq!(rt; slow.hold(), 33);
+    assert!(rt; slow.stop());
     slow.set(0, 10)?;
-    check_eq(slow.hold(), 255)?;
-    check_eq(slow.take(Word(32)), Ok(0))?;
-    check_eq(slow.take(Word(33)), Ok(1))?;
-    check_eq(two_rates(), Ok(0))
+    assert_eq!(rt; slow.hold(), 255);
+    assert_eq!(rt; slow.take(Word(32)), Ok(0));
+    assert_eq!(rt; slow.take(Word(33)), Ok(1));
+    assert_eq!(rt; two_rates(), Ok(0));
+    Ok(())
 }
 
 #[test]
-fn leads() -> Result<(), Fail> {
-    check_eq(lead(8, 5, 250), Ok(11))?;
-    check_eq(lead(8, 250, 5), Ok(-11))?;
-    check_eq(lead(8, 130, 2), Err(Fault::in_lead(Cause::HalfTurn)))
+fn leads(rt: HostRuntime) {
+    assert_eq!(rt; lead(8, 5, 250), Ok(11));
+    assert_eq!(rt; lead(8, 250, 5), Ok(-11));
+    assert_eq!(rt; lead(8, 130, 2), Err(Fault::in_lead(Cause::HalfTurn)));
 }
 
 // An up-counter of 8 bits, widened to 16.
@@ -105,23 +94,25 @@ fn above_a_down_counter() -> Result<Offset<Rate<Widening<DownCounter>>>, Fault> 
 }
 
 #[test]
-fn three_layers_across_wraps_of_an_up_counter() -> Result<(), Fail> {
+fn three_layers_across_wraps_of_an_up_counter(rt: HostRuntime) -> Result<(), Fail> {
     // 1900 true ticks in steps of 100, more than seven turns of the counter
     let mut stack = above_an_up_counter()?;
     for step in 1..20u32 {
-        check_eq(stack.take(Word(step * 100 % 256)), Ok(50))?;
+        assert_eq!(rt; stack.take(Word(step * 100 % 256)), Ok(50));
     }
-    check_eq(stack.reading(), 1950)
+    assert_eq!(rt; stack.reading(), 1950);
+    Ok(())
 }
 
 #[test]
-fn three_layers_across_rounds_of_a_down_counter() -> Result<(), Fail> {
+fn three_layers_across_rounds_of_a_down_counter(rt: HostRuntime) -> Result<(), Fail> {
     // 133 true ticks in steps of 7, more than thirteen rounds of ten
     let mut stack = above_a_down_counter()?;
     for step in 1..20u32 {
         let _ = stack.take(Count((209 - 7 * step) % 10))?;
     }
-    check_eq(stack.reading(), 93)
+    assert_eq!(rt; stack.reading(), 93);
+    Ok(())
 }
 
 fn marks(kind: Kind) -> Job {
@@ -150,22 +141,23 @@ fn with_two_jobs() -> Result<Logger<Rate<Widening<UpCounter>>>, Fault> {
 }
 
 #[test]
-fn firings() -> Result<(), Fail> {
+fn firings(rt: HostRuntime) -> Result<(), Fail> {
     let mut logger = with_two_jobs()?;
     // at half the rate 50 true ticks, past a wrap of the counter, bring 25
-    check_eq(logger.serve(Word(44)), Ok(1025))?;
-    check_eq(logger.next(), marked(2, 1010))?;
-    check_eq(logger.next(), marked(1, 1020))?;
-    check_eq(logger.next(), marked(2, 1020))?;
-    check_eq(logger.next(), None)
+    assert_eq!(rt; logger.serve(Word(44)), Ok(1025));
+    assert_eq!(rt; logger.next(), marked(2, 1010));
+    assert_eq!(rt; logger.next(), marked(1, 1020));
+    assert_eq!(rt; logger.next(), marked(2, 1020));
+    assert_eq!(rt; logger.next(), None);
+    Ok(())
 }
 
 #[test]
-fn listings() -> Result<(), Fail> {
+fn listings(rt: HostRuntime) {
     let mut buffer = [0u8; 32];
     let script = b"2 burst 3 10 0 read 1\n1 once 10 mark\n";
-    check_eq(listing(script, &mut buffer), Ok(19))?;
-    check_eq(buffer[0], b'0')?;
-    check_eq(buffer[18], b'\n')?;
-    check_eq(buffer[19], 0)
+    assert_eq!(rt; listing(script, &mut buffer), Ok(19));
+    assert_eq!(rt; buffer[0], b'0');
+    assert_eq!(rt; buffer[18], b'\n');
+    assert_eq!(rt; buffer[19], 0);
 }

@@ -1,27 +1,21 @@
 // Planning lines, and taking firings from a plan.
-ghost use mathlib.Core.Path.{_≡_};
-ghost use mathlib.Core.Bool.{cond};
-ghost use mathlib.Core.List.{[], map};
-ghost use Prim.Native.Nat.{_+_, _-_, _^_, _<_, _≤_};
-ghost use lib.ListN.{length};
-ghost use Rattle·std.specs.Options.{isSome};
-ghost use Rattle·std.specs.shelf.Lists.{All};
-ghost use Rattle·queue.specs.Order.{inserted, in-order};
-ghost use Rattle·queue.specs.Row.{first, later};
-ghost use Rattle·forecasting·specs.Pending.{pending, pending-order, first-due, after-first};
-ghost use Rattle·forecasting·specs.Plan.{waiting, Calm};
+ghost use Rattle.std.specs.Prelude.{◌≡◌, ◌+◌, ◌-◌, ◌^◌, ◌<◌, ◌≤◌, [], map, length, is_some, if◌then◌else◌};
+ghost use Rattle.std.specs.List.{AllByRecursion as All};
+ghost use Rattle.queue.specs.Order.{inserted, in_order};
+ghost use Rattle.queue.specs.Row.{first, later};
+ghost use Rattle.forecasting.specs.Pending.{pending, pending_order, first_due, after_first};
+ghost use Rattle.forecasting.specs.Plan.{waiting, Calm};
+
 use super::Plan;
 use crate::pending::Pending;
-use crate::pending::PendingOrd;
 use jobs::Kind;
 use line::Line;
-use queue::Due;
-use queue::Queue;
+use queue::{Due, Queue};
 
 impl Plan {
     fn new() -> Plan
-        ensures count { λ r. ⌜ r .queue .count ≡ 0 ⌝ }
-        ensures waiting { λ r. ⌜ waiting r ≡ [] ⌝ }
+        ensures count { result.queue.count ≡ 0 }
+        ensures waiting { waiting result ≡ [] }
     {
         let none = Pending {
             due: Due { moment: 0, slot: 0 },
@@ -34,27 +28,27 @@ impl Plan {
     }
 
     fn put(&mut self, pending: Pending)
-        requires { ⌜ now self .queue .count < 32 ⌝ }
-        ensures count { λ _. ⌜ now (self .exit) .queue .count ≡ now (self .entry) .queue .count + 1 ⌝ }
-        ensures waiting { λ _. ⌜ waiting (now (self .exit)) ≡ inserted pending-order pending (waiting (now (self .entry))) ⌝ }
+        requires { self.old.queue.count < 32 }
+        ensures count { self.new.queue.count ≡ self.old.queue.count + 1 }
+        ensures waiting { waiting self.new ≡ inserted pending_order pending (waiting self.old) }
     {
         // it is not refused: there is a place for each slot
         let _ = self.queue.add(&mut self.row, pending);
     }
 
     fn take(&mut self) -> Option<Pending>
-        ensures answer { λ r. ⌜ r ≡ first (waiting (now (self .entry))) ⌝ }
-        ensures count { λ r. ⌜ now (self .exit) .queue .count ≡ cond (isSome r) (now (self .entry) .queue .count - 1) (now (self .entry) .queue .count) ⌝ }
-        ensures waiting { λ _. ⌜ waiting (now (self .exit)) ≡ later (waiting (now (self .entry))) ⌝ }
+        ensures answer { result ≡ first (waiting self.old) }
+        ensures count { self.new.queue.count ≡ (if is_some result then self.old.queue.count - 1 else self.old.queue.count) }
+        ensures waiting { waiting self.new ≡ later (waiting self.old) }
     {
         self.queue.take_least(&mut self.row)
     }
 
     // The jobs of lines that are loaded at `start`.
     pub(crate) fn of(lines: &[Line], start: u64) -> Plan
-        requires few { ⌜ length (now lines) ≤ 32 ⌝ }
-        requires early { ⌜ All (λ l. start + l .delay < 2 ^ 64) (now lines) ⌝ }
-        ensures { λ r. ⌜ waiting r ≡ in-order pending-order (map (pending start) (now (lines .entry))) ⌝ }
+        requires few { length lines.now ≤ 32 }
+        requires early { All (λ l. start + l.delay < 2 ^ 64) lines.now }
+        ensures { waiting result ≡ in_order pending_order (map (pending start) lines.now) }
     {
         let mut plan = Plan::new();
         for line in lines {
@@ -65,9 +59,9 @@ impl Plan {
 
     // The next firing, after which its job waits for the one that follows.
     pub(crate) fn next(&mut self) -> Option<Due>
-        requires { ⌜ All (Calm (2 ^ 63)) (waiting (now self)) ⌝ }
-        ensures answer { λ r. ⌜ r ≡ first-due (waiting (now (self .entry))) ⌝ }
-        ensures after { λ _. ⌜ waiting (now (self .exit)) ≡ after-first (waiting (now (self .entry))) ⌝ }
+        requires { All (Calm (2 ^ 63)) (waiting self.old) }
+        ensures answer { result ≡ first_due (waiting self.old) }
+        ensures after { waiting self.new ≡ after_first (waiting self.old) }
     {
         let pending = self.take()?;
         if let Some(again) = pending.again() {

@@ -1,18 +1,13 @@
 // Judging the words of a line, from the left.
-ghost use mathlib.Core.Path.{_≡_};
-ghost use Prim.Native.Nat.{_+_, _^_, _<_, _≤_};
-ghost use lib.ListN.{length};
-ghost use Rattle·std.specs.Vec.{made};
-ghost use Rattle·line·specs.Cursor.{rest-of, and-rest, word-and-rest};
-ghost use Rattle·line·specs.Line.{whole-line, next, number, delay, period, once, every, burst, timing, reads, action, ending, line-of};
+ghost use Rattle.std.specs.Prelude.{◌≡◌, ◌+◌, ◌^◌, ◌<◌, ◌≤◌, length, IfOk};
+ghost use Rattle.line.specs.Cursor.{rest_of, and_rest, word_and_rest};
+ghost use Rattle.line.specs.Line.{whole_line, next, number, delay, period, once, every, burst, timing, reads, action, ending, line_of};
+
 use super::Cursor;
 use crate::line::Line;
 use crate::word::Word;
-use fault::Cause;
-use fault::Fault;
-use jobs::Action;
-use jobs::Job;
-use jobs::Kind;
+use fault::{Cause, Fault};
+use jobs::{Action, Job, Kind};
 use words::Words;
 
 // The largest delay and period, the most firings of a burst, and the last channel.
@@ -25,8 +20,8 @@ const MOST_CHANNEL: u64 = 15;
 impl<'a> Cursor<'a> {
     // Line `line`, which begins at byte `start` of the script.
     pub(crate) fn of(text: &'a [u8], line: usize, start: usize) -> Cursor<'a>
-        requires { ⌜ start + length (now text) < 2 ^ 63 ⌝ }
-        ensures { λ r. ⌜ rest-of r ≡ whole-line line start (now (text .entry)) ⌝ }
+        requires { start + length text.now < 2 ^ 63 }
+        ensures { rest_of result ≡ whole_line line start text.now }
     {
         Cursor {
             words: Words::of(text),
@@ -38,7 +33,7 @@ impl<'a> Cursor<'a> {
 
     // The next word; where it is missing, the line's end is at fault.
     fn word(&mut self) -> Result<Word<'a>, Fault>
-        ensures { λ r. ⌜ word-and-rest r (now (self .exit)) ≡ next (rest-of (now (self .entry))) ⌝ }
+        ensures { word_and_rest result self.new ≡ next (rest_of self.old) }
     {
         match self.words.next() {
             Some(text) => {
@@ -55,34 +50,34 @@ impl<'a> Cursor<'a> {
     }
 
     fn number(&mut self, least: u64, most: u64) -> Result<u64, Fault>
-        ensures read { λ r. ⌜ and-rest r (now (self .exit)) ≡ number least most (rest-of (now (self .entry))) ⌝ }
-        ensures within { λ r. ⌜ made r (λ n. (least ≤ n) × (n ≤ most)) ⌝ }
+        ensures read { and_rest result self.new ≡ number least most (rest_of self.old) }
+        ensures within { IfOk result (λ n. (least ≤ n) × (n ≤ most)) }
     {
         let word = self.word()?;
         word.limited(least, most)
     }
 
     fn delay(&mut self) -> Result<u64, Fault>
-        ensures { λ r. ⌜ and-rest r (now (self .exit)) ≡ delay (rest-of (now (self .entry))) ⌝ }
+        ensures { and_rest result self.new ≡ delay (rest_of self.old) }
     {
         self.number(0, MOST_TICKS)
     }
 
     fn period(&mut self) -> Result<u64, Fault>
-        ensures { λ r. ⌜ and-rest r (now (self .exit)) ≡ period (rest-of (now (self .entry))) ⌝ }
+        ensures { and_rest result self.new ≡ period (rest_of self.old) }
     {
         self.number(1, MOST_TICKS)
     }
 
     fn once(&mut self) -> Result<(Kind, u64), Fault>
-        ensures { λ r. ⌜ and-rest r (now (self .exit)) ≡ once (rest-of (now (self .entry))) ⌝ }
+        ensures { and_rest result self.new ≡ once (rest_of self.old) }
     {
         let delay = self.delay()?;
         Ok((Kind::Once, delay))
     }
 
     fn every(&mut self) -> Result<(Kind, u64), Fault>
-        ensures { λ r. ⌜ and-rest r (now (self .exit)) ≡ every (rest-of (now (self .entry))) ⌝ }
+        ensures { and_rest result self.new ≡ every (rest_of self.old) }
     {
         let period = self.period()?;
         let delay = self.delay()?;
@@ -90,7 +85,7 @@ impl<'a> Cursor<'a> {
     }
 
     fn burst(&mut self) -> Result<(Kind, u64), Fault>
-        ensures { λ r. ⌜ and-rest r (now (self .exit)) ≡ burst (rest-of (now (self .entry))) ⌝ }
+        ensures { and_rest result self.new ≡ burst (rest_of self.old) }
     {
         let firings = self.number(1, MOST_FIRINGS)?;
         let period = self.period()?;
@@ -101,7 +96,7 @@ impl<'a> Cursor<'a> {
 
     // The kind of a job, and its delay.
     fn timing(&mut self) -> Result<(Kind, u64), Fault>
-        ensures { λ r. ⌜ and-rest r (now (self .exit)) ≡ timing (rest-of (now (self .entry))) ⌝ }
+        ensures { and_rest result self.new ≡ timing (rest_of self.old) }
     {
         let word = self.word()?;
         if word.is(b"once") {
@@ -116,7 +111,7 @@ impl<'a> Cursor<'a> {
     }
 
     fn read(&mut self) -> Result<Action, Fault>
-        ensures { λ r. ⌜ and-rest r (now (self .exit)) ≡ reads (rest-of (now (self .entry))) ⌝ }
+        ensures { and_rest result self.new ≡ reads (rest_of self.old) }
     {
         let channel = self.number(0, MOST_CHANNEL)?;
         let channel = channel as u8;
@@ -124,7 +119,7 @@ impl<'a> Cursor<'a> {
     }
 
     fn action(&mut self) -> Result<Action, Fault>
-        ensures { λ r. ⌜ and-rest r (now (self .exit)) ≡ action (rest-of (now (self .entry))) ⌝ }
+        ensures { and_rest result self.new ≡ action (rest_of self.old) }
     {
         let word = self.word()?;
         if word.is(b"read") {
@@ -138,7 +133,7 @@ impl<'a> Cursor<'a> {
 
     // No word may follow.
     fn ending(&self) -> Result<(), Fault>
-        ensures { λ r. ⌜ r ≡ ending (rest-of (now (self .entry))) ⌝ }
+        ensures { result ≡ ending (rest_of self.now) }
     {
         let mut words = self.words;
         match words.next() {
@@ -149,7 +144,7 @@ impl<'a> Cursor<'a> {
 
     // The whole line, for one of the slots that are free.
     pub(crate) fn line(mut self, free: &[bool; 32]) -> Result<Line, Fault>
-        ensures { λ r. ⌜ r ≡ line-of (now (free .entry)) (rest-of (self .entry)) ⌝ }
+        ensures { result ≡ line_of free.now (rest_of self.entry) }
     {
         let slot = self.word()?.slot(free)?;
         let (kind, delay) = self.timing()?;

@@ -1,30 +1,28 @@
 // What a word may stand for.
-ghost use mathlib.Core.Path.{_≡_};
-ghost use Prim.Native.Nat.{_≤_};
-ghost use Rattle·std.specs.Vec.{made};
-ghost use Rattle·line·specs.Cursor.{seen};
-ghost use Rattle·line·specs.Line.{fault-at, is-word, number-at, limited, slot-at};
+ghost use Rattle.std.specs.Prelude.{◌≡◌, ◌≤◌, IfOk};
+ghost use Rattle.line.specs.Cursor.{seen};
+ghost use Rattle.line.specs.Line.{fault_at, is_word, number_at, limited, slot_at};
+
 use super::Word;
-use fault::Cause;
-use fault::Fault;
+use fault::{Cause, Fault};
 use words::number;
 
 impl Word<'_> {
     pub(crate) fn fault(self, cause: Cause) -> Fault
-        ensures { λ r. ⌜ r ≡ fault-at cause (seen (self .entry)) ⌝ }
+        ensures { result ≡ fault_at cause (seen self.entry) }
     {
         Fault::in_script(cause, self.line, self.byte)
     }
 
     pub(crate) fn is(self, text: &[u8]) -> bool
-        ensures { λ r. ⌜ r ≡ is-word (seen (self .entry)) (now (text .entry)) ⌝ }
+        ensures { result ≡ is_word (seen self.entry) text.now }
     {
         self.text == text
     }
 
     // A number of any size.
     fn number(self) -> Result<u64, Fault>
-        ensures { λ r. ⌜ r ≡ number-at (seen (self .entry)) ⌝ }
+        ensures { result ≡ number_at (seen self.entry) }
     {
         match number(self.text) {
             Some(n) => Ok(n),
@@ -34,8 +32,8 @@ impl Word<'_> {
 
     // A number that lies within limits.
     pub(crate) fn limited(self, least: u64, most: u64) -> Result<u64, Fault>
-        ensures answer { λ r. ⌜ r ≡ limited least most (seen (self .entry)) ⌝ }
-        ensures within { λ r. ⌜ made r (λ n. (least ≤ n) × (n ≤ most)) ⌝ }
+        ensures answer { result ≡ limited least most (seen self.entry) }
+        ensures within { IfOk result (λ n. (least ≤ n) × (n ≤ most)) }
     {
         let n = self.number()?;
         if least <= n && n <= most {
@@ -47,7 +45,7 @@ impl Word<'_> {
 
     // The number of a slot that is free.
     pub(crate) fn slot(self, free: &[bool; 32]) -> Result<u8, Fault>
-        ensures { λ r. ⌜ r ≡ slot-at (now (free .entry)) (seen (self .entry)) ⌝ }
+        ensures { result ≡ slot_at free.now (seen self.entry) }
     {
         let slot = self.number()?;
         if slot > 31 {

@@ -1,14 +1,14 @@
-use mathlib.Core.Path.{_≡_, ap, _∙_}
-use Rattle·listing·specs.Listing.{listing-text, copy-answer, copied}
-use Rattle·listing·specs.Page.{page-text, page-after}
-use Rattle·listing·proofs.Pages.{page-fits}
-use Rattle·listing·proofs.listing.Needs as need
+use Rattle.std.proofs.Common.{◌≡◌, ap, ◌∙◌}
+use Rattle.listing.specs.Listing.{listing_text, copy_answer, copied}
+use Rattle.listing.specs.Page.{page_text, page_after}
+use Rattle.listing.proofs.Pages.{page_fits}
+use Rattle.listing.proofs.listing.Goals as goal
 
-pub returns : need.returns
+pub returns : goal.returns
 returns c =
-    let text = listing-text (c .args .script .now) in
-    let written : page-text (c .write .last .page) ≡ text = c .write .ensures .text ∙ ap (λ t. page-after t text) (c .new-page .ensures) ∙ page-fits text (c .write .ensures .size) in
+    let text = listing_text c.args.script.now in
+    let written : page_text c.write.new.page ≡ text = c.write.ensures.text ∙ ap (λ t. page_after t text) c.new-page.ensures ∙ page_fits text c.write.ensures.size in
     record {
-      answer = c .copy-to .ensures .answer ∙ ap (λ t. copy-answer t (c .args .buffer .now)) written;
-      buffer = c .copy-to .ensures .buffer ∙ ap (λ t. copied t (c .args .buffer .now)) written;
+      answer = c.copy-to.ensures.answer ∙ ap (λ t. copy_answer t c.args.buffer.now) written;
+      buffer = c.copy-to.ensures.buffer ∙ ap (λ t. copied t c.args.buffer.now) written;
     }

@@ -1,23 +1,15 @@
 // Writing bytes, numbers, firings and faults.
-ghost use mathlib.Core.Path.{_≡_};
-ghost use mathlib.Core.List.{[], _∷_, _++_};
-ghost use Prim.Native.Nat.{_*_, _≤_};
-ghost use lib.ListN.{length};
-ghost use Rattle·std.specs.Written.{decimal};
-ghost use lib.Chars.{codes};
-ghost use Rattle·fault.specs.Text.{part-text, where-text, fault-text};
-ghost use Rattle·listing·specs.Listing.{row-text, rows-text, copy-answer, copied};
-ghost use Rattle·listing·specs.Page.{page-text, page-after};
-use super::CAPACITY;
-use super::Page;
-use fault::Cause;
-use fault::Fault;
-use fault::Part;
-use fault::Place;
+ghost use Rattle.std.specs.Prelude.{◌≡◌, ◌*◌, ◌≤◌, [], ◌∷◌, ◌++◌, length, codes, decimal};
+ghost use Rattle.fault.specs.Text.{part_text, where_text, fault_text};
+ghost use Rattle.listing.specs.Listing.{row_text, rows_text, copy_answer, copied};
+ghost use Rattle.listing.specs.Page.{page_text, page_after};
+
+use super::{CAPACITY, Page};
+use fault::{Cause, Fault, Part, Place};
 
 impl Page {
     pub(crate) fn new() -> Page
-        ensures { λ r. ⌜ page-text r ≡ [] ⌝ }
+        ensures { page_text result ≡ [] }
     {
         Page {
             bytes: [0; CAPACITY],
@@ -26,7 +18,7 @@ impl Page {
     }
 
     pub(crate) fn push(&mut self, byte: u8)
-        ensures { λ _. ⌜ page-text (now (self .exit)) ≡ page-after (page-text (now (self .entry))) (byte ∷ []) ⌝ }
+        ensures { page_text self.new ≡ page_after (page_text self.old) (byte ∷ []) }
     {
         if self.used < CAPACITY {
             self.bytes[self.used] = byte;
@@ -35,7 +27,7 @@ impl Page {
     }
 
     fn put(&mut self, text: &[u8])
-        ensures { λ _. ⌜ page-text (now (self .exit)) ≡ page-after (page-text (now (self .entry))) (now (text .entry)) ⌝ }
+        ensures { page_text self.new ≡ page_after (page_text self.old) text.now }
     {
         for byte in text {
             self.push(*byte);
@@ -44,8 +36,8 @@ impl Page {
 
     // In decimal.
     fn number(&mut self, n: u64)
-        ensures text { λ _. ⌜ page-text (now (self .exit)) ≡ page-after (page-text (now (self .entry))) (decimal n) ⌝ }
-        ensures size { λ _. ⌜ length (decimal n) ≤ 20 ⌝ }
+        ensures text { page_text self.new ≡ page_after (page_text self.old) (decimal n) }
+        ensures size { length (decimal n) ≤ 20 }
     {
         if n >= 10 {
             self.number(n / 10);
@@ -55,8 +47,8 @@ impl Page {
 
     // A firing: its due moment, a space, its slot, and the line's end.
     fn row(&mut self, moment: u64, slot: u8)
-        ensures text { λ _. ⌜ page-text (now (self .exit)) ≡ page-after (page-text (now (self .entry))) (row-text moment slot) ⌝ }
-        ensures size { λ _. ⌜ length (row-text moment slot) ≤ 42 ⌝ }
+        ensures text { page_text self.new ≡ page_after (page_text self.old) (row_text moment slot) }
+        ensures size { length (row_text moment slot) ≤ 42 }
     {
         self.number(moment);
         self.push(b' ');
@@ -66,8 +58,8 @@ impl Page {
 
     // A line for each firing.
     pub(crate) fn rows(&mut self, moments: &[u64], slots: &[u8])
-        ensures text { λ _. ⌜ page-text (now (self .exit)) ≡ page-after (page-text (now (self .entry))) (rows-text (now (moments .entry)) (now (slots .entry))) ⌝ }
-        ensures size { λ _. ⌜ length (rows-text (now (moments .entry)) (now (slots .entry))) ≤ 42 * length (now (moments .entry)) ⌝ }
+        ensures text { page_text self.new ≡ page_after (page_text self.old) (rows_text moments.now slots.now) }
+        ensures size { length (rows_text moments.now slots.now) ≤ 42 * length moments.now }
     {
         let count = moments.len().min(slots.len());
         for i in 0..count {
@@ -76,7 +68,7 @@ impl Page {
     }
 
     fn part(&mut self, part: Part)
-        ensures { λ _. ⌜ page-text (now (self .exit)) ≡ page-after (page-text (now (self .entry))) (part-text part) ⌝ }
+        ensures { page_text self.new ≡ page_after (page_text self.old) (part_text part) }
     {
         match part {
             Part::Device => self.put(b"device"),
@@ -90,8 +82,8 @@ impl Page {
 
     // A part that has one number for its place.
     fn part_at(&mut self, part: Part, place: u64)
-        ensures text { λ _. ⌜ page-text (now (self .exit)) ≡ page-after (page-text (now (self .entry))) (part-text part ++ (32 ∷ decimal place)) ⌝ }
-        ensures size { λ _. ⌜ length (part-text part ++ (32 ∷ decimal place)) ≤ 27 ⌝ }
+        ensures text { page_text self.new ≡ page_after (page_text self.old) (part_text part ++ (32 ∷ decimal place)) }
+        ensures size { length (part_text part ++ (32 ∷ decimal place)) ≤ 27 }
     {
         self.part(part);
         self.push(b' ');
@@ -99,8 +91,8 @@ impl Page {
     }
 
     fn place(&mut self, part: Part, place: Place)
-        ensures text { λ _. ⌜ page-text (now (self .exit)) ≡ page-after (page-text (now (self .entry))) (where-text part place) ⌝ }
-        ensures size { λ _. ⌜ length (where-text part place) ≤ 51 ⌝ }
+        ensures text { page_text self.new ≡ page_after (page_text self.old) (where_text part place) }
+        ensures size { length (where_text part place) ≤ 51 }
     {
         match place {
             Place::Tag(tag) => self.part_at(part, u64::from(tag)),
@@ -112,8 +104,8 @@ impl Page {
     }
 
     fn line_and_byte(&mut self, line: usize, byte: usize)
-        ensures text { λ _. ⌜ page-text (now (self .exit)) ≡ page-after (page-text (now (self .entry))) (codes "line " ++ (decimal line ++ (codes " byte " ++ decimal byte))) ⌝ }
-        ensures size { λ _. ⌜ length (codes "line " ++ (decimal line ++ (codes " byte " ++ decimal byte))) ≤ 51 ⌝ }
+        ensures text { page_text self.new ≡ page_after (page_text self.old) (codes "line " ++ (decimal line ++ (codes " byte " ++ decimal byte))) }
+        ensures size { length (codes "line " ++ (decimal line ++ (codes " byte " ++ decimal byte))) ≤ 51 }
     {
         self.put(b"line ");
         self.number(line as u64);
@@ -123,8 +115,8 @@ impl Page {
 
     // The text of a fault, and the line's end.
     pub(crate) fn refusal(&mut self, fault: Fault)
-        ensures text { λ _. ⌜ page-text (now (self .exit)) ≡ page-after (page-text (now (self .entry))) (fault-text fault ++ (10 ∷ [])) ⌝ }
-        ensures size { λ _. ⌜ length (fault-text fault ++ (10 ∷ [])) ≤ 81 ⌝ }
+        ensures text { page_text self.new ≡ page_after (page_text self.old) (fault_text fault ++ (10 ∷ [])) }
+        ensures size { length (fault_text fault ++ (10 ∷ [])) ≤ 81 }
     {
         self.put(b"refused ");
         self.number(u64::from(fault.cause.number()));
@@ -135,8 +127,8 @@ impl Page {
 
     // Copies the text into a buffer, which is left alone where it is too short; answers how many bytes.
     pub(crate) fn copy_to(&self, buffer: &mut [u8]) -> Result<usize, Fault>
-        ensures answer { λ r. ⌜ r ≡ copy-answer (page-text (now (self .entry))) (now (buffer .entry)) ⌝ }
-        ensures buffer { λ _. ⌜ now (buffer .exit) ≡ copied (page-text (now (self .entry))) (now (buffer .entry)) ⌝ }
+        ensures answer { result ≡ copy_answer (page_text self.now) buffer.old }
+        ensures buffer { buffer.new ≡ copied (page_text self.now) buffer.old }
     {
         let size = self.used;
         if size > buffer.len() {

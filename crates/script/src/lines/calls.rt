@@ -1,19 +1,16 @@
 // What a script that was read tells.
-ghost use mathlib.Core.Path.{_≡_};
-ghost use mathlib.Core.List.{[], _∷_, _++_};
-ghost use Prim.Native.Nat.{_+_, _<_};
-ghost use Rattle·script·specs.Lines.{lines-of};
+ghost use Rattle.std.specs.Prelude.{◌≡◌, ◌+◌, ◌<◌, [], ◌∷◌, ◌++◌};
+ghost use Rattle.script.specs.Lines.{lines_of};
+
 use super::Script;
-use jobs::Action;
-use jobs::Job;
-use jobs::Kind;
+use jobs::{Action, Job, Kind};
 use line::Line;
 
 impl Script {
     // A script with no line.
     pub(crate) fn new() -> Script
-        ensures lines { λ r. ⌜ lines-of r ≡ [] ⌝ }
-        ensures count { λ r. ⌜ r .count ≡ 0 ⌝ }
+        ensures lines { lines_of result ≡ [] }
+        ensures count { result.count ≡ 0 }
     {
         let blank = Line {
             slot: 0,
@@ -30,15 +27,15 @@ impl Script {
     }
 
     pub fn lines(&self) -> &[Line]
-        ensures { λ r. ⌜ now r ≡ lines-of (now (self .entry)) ⌝ }
+        ensures { result.now ≡ lines_of self.now }
     {
         &self.lines[0..self.count]
     }
 
     pub(crate) fn add(&mut self, line: Line)
-        requires { ⌜ now self .count < 32 ⌝ }
-        ensures lines { λ _. ⌜ lines-of (now (self .exit)) ≡ lines-of (now (self .entry)) ++ line ∷ [] ⌝ }
-        ensures count { λ _. ⌜ now (self .exit) .count ≡ now (self .entry) .count + 1 ⌝ }
+        requires { self.old.count < 32 }
+        ensures lines { lines_of self.new ≡ lines_of self.old ++ line ∷ [] }
+        ensures count { self.new.count ≡ self.old.count + 1 }
     {
         self.lines[self.count] = line;
         self.count += 1;

@@ -1,16 +1,16 @@
 // How a moment is made and read.
-ghost use mathlib.Core.Path.{_≡_};
-ghost use Rattle·slots·specs.Moment.{moment-made, by-ticks};
+ghost use Rattle.std.specs.Prelude.{◌≡◌};
+ghost use Rattle.slots.specs.Moment.{moment_made, by_ticks};
+
 use super::Moment;
-use fault::Cause;
-use fault::Fault;
+use fault::{Cause, Fault};
 
 // Moments stay below 2^62.
 const LIMIT: u64 = 4_611_686_018_427_387_904;
 
 impl Moment {
     pub fn new(ticks: u64) -> Result<Moment, Fault>
-        ensures { λ r. ⌜ by-ticks r ≡ moment-made ticks ⌝ }
+        ensures { by_ticks result ≡ moment_made ticks }
     {
         if ticks >= LIMIT {
             return Err(Fault::in_logger(Cause::MomentLimit));
@@ -19,7 +19,7 @@ impl Moment {
     }
 
     pub fn ticks(self) -> u64
-        ensures { λ r. ⌜ r ≡ self .ticks ⌝ }
+        ensures { result ≡ self.ticks }
     {
         self.ticks
     }

@@ -1,7 +1,7 @@
-use mathlib.Core.Path.{refl}
-use Rattle·queue·specs.Due.{due-order}
-use Rattle·queue·proofs.DueOrder.{due-strict}
-use Rattle·queue·proofs.dues.order_is_total.Needs as need
+use Rattle.std.proofs.Common.{refl}
+use Rattle.queue.specs.Due.{due_order}
+use Rattle.queue.proofs.DueOrder.{due_strict}
+use Rattle.queue.proofs.dues.order_is_total.Goals as goal
 
-pub returns : need.returns
-returns c = record { answer = refl; total = due-order; strict = due-strict }
+pub returns : goal.returns
+returns c = record { answer = refl; total = due_order; strict = due_strict }

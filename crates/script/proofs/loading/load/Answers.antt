@@ -1,67 +1,63 @@
-use mathlib.Core.Path.{_≡_, refl, sym, ap, subst, _∙_}
-use mathlib.Core.List.{List, [], _∷_}
-use Prim.Native.Nat.{_+_}
-use lib.ListN.{drop, getD}
-use Rattle·std.specs.declared.result.Result.the-variants.{Ok}
-use Rattle·std.specs.shelf.Lists.{All}
-use Rattle·std.proofs.shelf.Lists.{drop-all, drop-more}
-use Rattle·logger.specs.State.{view}
-use Rattle·jobs.specs.declared.Action.the-variants.{Read}
-use Rattle·jobs.specs.declared.Kind.the-variants.{Once}
-use Rattle·line.specs.declared.line.Line.{Line}
-use Rattle·script·specs.Lines.{lines-of, read-as}
-use Rattle·script·specs.Load.{free-slots, lines-for, set-up-all, load-answer, after-load}
-use Rattle·script·specs.Script.{script-of}
-use Rattle·line.specs.Text.{Lawful}
-use Rattle·script·specs.Text.{Different}
-use Rattle·script·proofs.Laws.{law}
-use Rattle·script·proofs.Loads.{Ready, ready-more, read-for}
-use Rattle·script·proofs.loading.load.Needs as need
+use Rattle.std.proofs.Common.{◌≡◌, ◌+◌, List, [], ◌∷◌, get_or, drop, Ok, sym, refl, ap, ◌∙◌, subst}
+use Rattle.std.specs.List.{AllByRecursion as All}
+use Rattle.std.proofs.lemmas.List.{drop_all, drop_more}
+use Rattle.logger.specs.State.{view}
+use Rattle.jobs.specs.declared.Action.TheVariants.{Read}
+use Rattle.jobs.specs.declared.Kind.TheVariants.{Once}
+use Rattle.line.specs.declared.line.Line.{Line}
+use Rattle.script.specs.Lines.{lines_of, read_as}
+use Rattle.script.specs.Load.{free_slots, lines_for, set_up_all, load_answer, after_load}
+use Rattle.script.specs.Script.{script_of}
+use Rattle.line.specs.Text.{Lawful}
+use Rattle.script.specs.Text.{Different}
+use Rattle.script.proofs.Laws.{law}
+use Rattle.script.proofs.Loads.{Ready, ready_more, read_for}
+use Rattle.script.proofs.loading.load.Goals as goal
 
 -- what the code reads past a slice
 abbrev blank : Line
 blank = record { slot = 0; delay = 0; job = record { kind = Once; action = Read 0 } }
 
-pub loop-line-holds : need.loop-line-holds
-loop-line-holds g c =
-    let l = view (g .A·Clock .meaning) (c .args .logger .now) in
-    let free = free-slots (c .args .logger .now .table .slots) in
-    let loaded = lines-of (c .in-Continue-loaded .loaded) in
-    let ok : lines-for l (c .args .script .now) ≡ Ok loaded =
-    read-for l (c .free-slots-free .result) (c .args .script .now) (c .read .result) (c .in-Continue-loaded .loaded)
-    (c .free-slots-free .ensures ∙ ap free-slots (c .slots .ensures .table)) (c .read .ensures .answer) (c .in-Continue-loaded .was tt) in
-    let w = law free (c .args .script .now) .written loaded ok in
+pub loop-line-init : goal.loop-line-init
+loop-line-init g c =
+    let l = view g.A.Clock.meaning c.args.logger.now in
+    let free = free_slots c.args.logger.now.table.slots in
+    let loaded = lines_of c.in-ok-loaded.loaded in
+    let ok : lines_for l c.args.script.now ≡ Ok loaded =
+    read_for l c.free-slots-free.result c.args.script.now c.read.result c.in-ok-loaded.loaded
+    (c.free-slots-free.ensures ∙ ap free_slots c.slots.ensures.table) c.read.ensures.answer c.in-ok-loaded.was in
+    let w = (law free c.args.script.now).written loaded ok in
     let W : List Line → Type 0 = λ ls. All (Lawful free) ls in
     record {
       same = refl;
-      lawful = subst W (sym (c .lines-line-items .ensures)) (w .lawful);
-      different = subst Different (sym (c .lines-line-items .ensures)) (w .different);
+      lawful = subst W (sym c.lines-line-items.ensures) w.lawful;
+      different = subst Different (sym c.lines-line-items.ensures) w.different;
     }
 
-pub loop-line-again : need.loop-line-again
-loop-line-again g c =
-    let l = view (g .A·Clock .meaning) (c .loop-line .logger) in
-    let items = c .lines-line-items .result .now in
-    let i = c .loop-line .line-index in
-    let whole = set-up-all (view (g .A·Clock .meaning) (c .args .logger .now)) items in
+pub loop-line-preserved : goal.loop-line-preserved
+loop-line-preserved g c =
+    let l = view g.A.Clock.meaning c.loop-line.logger in
+    let items = c.lines-line-items.result.now in
+    let i = c.loop-line.line-index in
+    let whole = set_up_all (view g.A.Clock.meaning c.args.logger.now) items in
     let R : List Line → Type 0 = λ ls. Ready whole l ls in
-    ready-more whole l (view (g .A·Clock .meaning) (c .set-up-line .last .logger)) (getD items i blank) (drop (i + 1) items) (c .set-up-line .result) (c .set-up-line .ensures)
-    (subst R (drop-more items i blank (c .loop-line-test .taken)) (c .loop-line .inv))
+    ready_more whole l (view g.A.Clock.meaning c.set-up-line.new.logger) (get_or items i blank) (drop (i + 1) items) c.set-up-line.result c.set-up-line.ensures
+    (subst R (drop_more items i blank c.loop-line-test.true) c.loop-line.invariant)
 
-pub returns : need.returns
+pub returns : goal.returns
 returns g c =
-    let l = view (g .A·Clock .meaning) (c .args .logger .now) in
-    let items = c .lines-line-items .result .now in
-    let loaded = lines-of (c .in-Continue-loaded .loaded) in
-    let ok : lines-for l (c .args .script .now) ≡ Ok loaded =
-    read-for l (c .free-slots-free .result) (c .args .script .now) (c .read .result) (c .in-Continue-loaded .loaded)
-    (c .free-slots-free .ensures ∙ ap free-slots (c .slots .ensures .table)) (c .read .ensures .answer) (c .in-Continue-loaded .was tt) in
-    let none : drop (c .loop-line .line-index) items ≡ [] = drop-all (c .loop-line .line-index) items (c .loop-line-test .left) in
+    let l = view g.A.Clock.meaning c.args.logger.now in
+    let items = c.lines-line-items.result.now in
+    let loaded = lines_of c.in-ok-loaded.loaded in
+    let ok : lines_for l c.args.script.now ≡ Ok loaded =
+    read_for l c.free-slots-free.result c.args.script.now c.read.result c.in-ok-loaded.loaded
+    (c.free-slots-free.ensures ∙ ap free_slots c.slots.ensures.table) c.read.ensures.answer c.in-ok-loaded.was in
+    let none : drop c.loop-line.line-index items ≡ [] = drop_all c.loop-line.line-index items c.loop-line-test.false in
     record {
-      answer = sym (ap load-answer ok);
+      answer = sym (ap load_answer ok);
       after =
-          sym (ap (set-up-all (view (g .A·Clock .meaning) (c .loop-line .logger))) none)
-          ∙ sym (c .loop-line .inv .same)
-          ∙ ap (set-up-all l) (c .lines-line-items .ensures)
-          ∙ sym (ap (after-load l) ok);
+          sym (ap (set_up_all (view g.A.Clock.meaning c.loop-line.logger)) none)
+          ∙ sym c.loop-line.invariant.same
+          ∙ ap (set_up_all l) c.lines-line-items.ensures
+          ∙ sym (ap (after_load l) ok);
     }

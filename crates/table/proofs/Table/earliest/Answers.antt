@@ -1,7 +1,7 @@
-use mathlib.Core.Path.{ap, _∙_}
-use Rattle·queue.specs.Row.{first}
-use Rattle·table·proofs.Planned.{dues-same}
-use Rattle·table·proofs.Table.earliest.Needs as need
+use Rattle.std.proofs.Common.{ap, ◌∙◌}
+use Rattle.queue.specs.Row.{first}
+use Rattle.table.proofs.Planned.{dues_same}
+use Rattle.table.proofs.Table.earliest.Goals as goal
 
-pub returns : need.returns
-returns c = c .least .ensures ∙ ap first (dues-same (c .args .self .now .tied))
+pub returns : goal.returns
+returns c = c.least.ensures ∙ ap first (dues_same c.args.self.now.tied)

@@ -1,5 +1,5 @@
-use mathlib.Core.Path.{refl}
-use Rattle·table·proofs.Table.new.Needs as need
+use Rattle.std.proofs.Common.{refl}
+use Rattle.table.proofs.Table.new.Goals as goal
 
-pub ghost-result : need.ghost-result
-ghost-result c = (refl, (∣ c .new .ensures ∣₁, tt))
+pub invariant-of-result : goal.invariant-of-result
+invariant-of-result c = (refl, (∣ c.new.ensures ∣₁, tt))

@@ -1,18 +1,16 @@
-use mathlib.Core.Path.{_≡_, sym, ap, _∙_}
-use native.Mathlib.Omega.{arith}
-use lib.ListN.{length}
-use Rattle·std.proofs.shelf.Lists.{length-set}
-use Rattle·table·specs.Dues.{planned}
-use Rattle·table·proofs.Planned.{dues-same}
-use Rattle·table·proofs.Table.write.Needs as need
+use Rattle.std.proofs.Common.{◌≡◌, length, sym, ap, ◌∙◌, arith}
+use Rattle.std.proofs.lemmas.List.{length-set}
+use Rattle.table.specs.Dues.{planned}
+use Rattle.table.proofs.Planned.{dues_same}
+use Rattle.table.proofs.Table.write.Goals as goal
 
-pub store-requires : need.store-requires
-store-requires c κs =
-    let t = c .args .self .now in
-    record { place = omega (arith, t .long, c .pre); size = omega (arith, t .long); tied = dues-same (t .tied) }
+pub store-requires : goal.store-requires
+store-requires c =
+    let t = c.args.self.now in
+    record { place = omega (arith, t.long, c.requires); size = omega (arith, t.long); tied = dues_same t.tied }
 
-pub ghost-self : need.ghost-self
-ghost-self c =
-    let t = c .args .self .now in
-    let written = c .store .ensures .table in
-    (ap length written ∙ length-set (t .slots) (c .args .slot) (c .args .state) ∙ t .long, (∣ c .store .ensures .agenda ∙ ap planned (sym written) ∣₁, tt))
+pub invariant-of-self : goal.invariant-of-self
+invariant-of-self c =
+    let t = c.args.self.now in
+    let written = c.store.ensures.table in
+    (ap length written ∙ length-set t.slots c.args.slot c.args.state ∙ t.long, (∣ c.store.ensures.agenda ∙ ap planned (sym written) ∣₁, tt))

@@ -1,35 +1,33 @@
-use mathlib.Core.Path.{_≡_, ap, _∙_}
-use Prim.Native.Nat.{ℕ, _+_, _-_, _*_, _%_, _^_, _<_, _≤_}
-use native.Mathlib.Omega.{arith}
-use Rattle·widening·proofs.Widened.{joined-is, joined-fits}
-use Rattle·widening·proofs.widening.joined.Needs as need
+use Rattle.std.proofs.Common.{◌≡◌, ℕ, ◌+◌, ◌-◌, ◌*◌, ◌%◌, ◌^◌, ◌<◌, ◌≤◌, ap, ◌∙◌, arith}
+use Rattle.widening.specs.WidenedLemmas.{joined_is, joined_fits}
+use Rattle.widening.proofs.widening.joined.Goals as goal
 
 -- the two parts as the code has them
 module _ (width low carry reading above turn : ℕ) (wider : low ≤ width) (narrow : width ≤ 48) (fits : reading < 2 ^ low)
-    (is-above : above ≡ 2 ^ (width - low)) (is-turn : turn ≡ 2 ^ low) where
+    (is_above : above ≡ 2 ^ (width - low)) (is_turn : turn ≡ 2 ^ low) where
   high : carry % above * turn ≡ carry % 2 ^ (width - low) * 2 ^ low
-  high = λ i. carry % is-above i * is-turn i
+  high = λ i. carry % is_above i * is_turn i
 
-  all-fits : carry % above * turn + reading < 2 ^ 64
-  all-fits = omega (arith, high, joined-fits width low carry reading wider fits narrow)
+  all_fits : carry % above * turn + reading < 2 ^ 64
+  all_fits = omega (arith, high, joined_fits width low carry reading wider fits narrow)
 
   all : carry % above * turn + reading ≡ (carry * 2 ^ low + reading) % 2 ^ width
-  all = ap (λ n. n + reading) high ∙ joined-is width low carry reading wider fits
+  all = ap (λ n. n + reading) high ∙ joined_is width low carry reading wider fits
 
-pub mul-result : need.mul-result
-mul-result c =
-    let fits = all-fits (c .args .width .bits) (c .args .low .bits) (c .args .carry) (c .args .reading) _ _
-    (c .pre .0) (c .args .width .high) (c .pre .1) (c .turn .ensures) (c .turn-2 .ensures) in
+pub overflow-mul-result : goal.overflow-mul-result
+overflow-mul-result c =
+    let fits = all_fits c.args.width.bits c.args.low.bits c.args.carry c.args.reading _ _
+    c.requires.0 c.args.width.high c.requires.1 c.turn.ensures c.turn-2.ensures in
     record { fits = omega arith }
 
-pub add-result : need.add-result
-add-result c =
+pub overflow-add-result : goal.overflow-add-result
+overflow-add-result c =
     record {
-      fits = all-fits (c .args .width .bits) (c .args .low .bits) (c .args .carry) (c .args .reading) _ _
-          (c .pre .0) (c .args .width .high) (c .pre .1) (c .turn .ensures) (c .turn-2 .ensures);
+      fits = all_fits c.args.width.bits c.args.low.bits c.args.carry c.args.reading _ _
+          c.requires.0 c.args.width.high c.requires.1 c.turn.ensures c.turn-2.ensures;
     }
 
-pub returns : need.returns
+pub returns : goal.returns
 returns c =
-    all (c .args .width .bits) (c .args .low .bits) (c .args .carry) (c .args .reading) _ _
-    (c .pre .0) (c .args .width .high) (c .pre .1) (c .turn .ensures) (c .turn-2 .ensures)
+    all c.args.width.bits c.args.low.bits c.args.carry c.args.reading _ _
+    c.requires.0 c.args.width.high c.requires.1 c.turn.ensures c.turn-2.ensures

@@ -1,9 +1,8 @@
-use mathlib.Core.Path.{_≡_, ap, _∙_}
-use Prim.Native.Nat.{min}
-use Rattle·down·proofs.DownCounters.{down-wait}
-use Rattle·down·proofs.down.DownCounter.wait.Needs as need
+use Rattle.std.proofs.Common.{◌≡◌, min, ap, ◌∙◌}
+use Rattle.down.specs.DownCounters.{down_wait}
+use Rattle.down.proofs.down.DownCounter.wait.Goals as goal
 
-pub returns : need.returns
+pub returns : goal.returns
 returns c =
-    let s = c .args .self .now in
-    c .min .ensures ∙ ap (min (c .args .left)) (c .from .ensures) ∙ down-wait (s .reload) (s .last) (s .reading) (s .tag) (c .args .left)
+    let s = c.args.self.now in
+    c.min.ensures ∙ ap (min c.args.left) c.from.ensures ∙ down_wait s.reload s.last s.reading s.tag c.args.left

@@ -1,5 +1,5 @@
-use Rattle·queue.proofs.Queued.{queued-none}
-use Rattle·forecasting·proofs.plan.Plan.new.Needs as need
+use Rattle.queue.proofs.Queued.{queued_none}
+use Rattle.forecasting.proofs.plan.Plan.new.Goals as goal
 
-pub returns : need.returns
-returns c = record { count = c .new .ensures; waiting = queued-none (c .new .result) _ (c .new .ensures) }
+pub returns : goal.returns
+returns c = record { count = c.new.ensures; waiting = queued_none c.new.result _ c.new.ensures }

@@ -1,8 +1,7 @@
-use mathlib.Core.Path.{ap}
-use native.Mathlib.Omega.{arith}
-use Rattle·line·specs.Extent.{extent}
-use Rattle·line·proofs.Extents.{extent-words}
-use Rattle·line·proofs.cursor.Cursor.of.Needs as need
+use Rattle.std.proofs.Common.{ap, arith}
+use Rattle.line.specs.Extent.{extent}
+use Rattle.line.proofs.Extents.{extent_words}
+use Rattle.line.proofs.cursor.Cursor.of.Goals as goal
 
-pub ghost-result : need.ghost-result
-ghost-result c = (omega (arith, ap extent (c .of .ensures), extent-words (c .args .text .now)), (c .pre, tt))
+pub invariant-of-result : goal.invariant-of-result
+invariant-of-result c = (omega (arith, ap extent c.of.ensures, extent_words c.args.text.now), (c.requires, tt))

@@ -1,10 +1,10 @@
-use mathlib.Core.Path.{sym, subst}
-use Rattle·logger·specs.State.{view}
-use Rattle·logger·specs.Calls.{HoldLaw}
-use Rattle·logger·proofs.Hold.{hold-law}
-use Rattle·logger·proofs.logger.Logger.hold.Needs as need
+use Rattle.std.proofs.Common.{sym, subst}
+use Rattle.logger.specs.State.{view}
+use Rattle.logger.specs.Calls.{HoldLaw}
+use Rattle.logger.proofs.Hold.{hold_law}
+use Rattle.logger.proofs.logger.Logger.hold.Goals as goal
 
-pub returns : need.returns
+pub returns : goal.returns
 returns g c =
-    let l = view (g .A·Clock .meaning) (c .args .self .now) in
-    record { answer = c .wait .ensures; law = subst (HoldLaw l) (sym (c .wait .ensures .answer)) (hold-law l) }
+    let l = view g.A.Clock.meaning c.args.self.now in
+    record { answer = c.wait.ensures; law = subst (HoldLaw l) (sym c.wait.ensures.answer) (hold_law l) }

@@ -1,6 +1,6 @@
-use mathlib.Core.Path.{ap}
-use Rattle·logger·specs.Within.{table-fits}
-use Rattle·logger·proofs.logger.Logger.new.Needs as need
+use Rattle.std.proofs.Common.{ap}
+use Rattle.logger.specs.Within.{table_fits}
+use Rattle.logger.proofs.logger.Logger.new.Goals as goal
 
-pub ghost-result : need.ghost-result
-ghost-result g c = (ap table-fits (c .new .ensures), tt)
+pub invariant-of-result : goal.invariant-of-result
+invariant-of-result g c = (ap table_fits c.new.ensures, tt)

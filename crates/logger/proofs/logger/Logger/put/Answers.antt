@@ -1,9 +1,9 @@
-use mathlib.Core.Path.{ap, _∙_}
-use Rattle·logger·specs.Within.{table-fits}
-use Rattle·logger·proofs.Fitting.{fits-set}
-use Rattle·logger·proofs.logger.Logger.put.Needs as need
+use Rattle.std.proofs.Common.{ap, ◌∙◌}
+use Rattle.logger.specs.Within.{table_fits}
+use Rattle.logger.proofs.Fitting.{fits_set}
+use Rattle.logger.proofs.logger.Logger.put.Goals as goal
 
-pub ghost-self : need.ghost-self
-ghost-self g c =
-    let s = c .args .self .now in
-    (ap table-fits (c .put .ensures) ∙ fits-set (s .table .slots) (c .args .slot) (c .args .state) (s .limits) (c .pre), tt)
+pub invariant-of-self : goal.invariant-of-self
+invariant-of-self g c =
+    let s = c.args.self.now in
+    (ap table_fits c.put.ensures ∙ fits_set s.table.slots c.args.slot c.args.state s.limits c.requires, tt)

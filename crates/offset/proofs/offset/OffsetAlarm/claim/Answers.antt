@@ -1,8 +1,8 @@
-use Rattle·offset·proofs.Shifted.{claimed-fits}
-use Rattle·offset·proofs.offset.OffsetAlarm.claim.Needs as need
+use Rattle.offset.specs.ShiftedLemmas.{claimed_fits}
+use Rattle.offset.proofs.offset.OffsetAlarm.claim.Goals as goal
 
-pub forward-requires : need.forward-requires
-forward-requires g c κs =
-    let below = c .args .self .now .below in
-    claimed-fits (g .A·Clock .meaning below .width) (c .in-Some .point) (g .A·Alarm .appointment below) (g .A·Clock·met .lawful below .width-high)
-    (g .A·Alarm·met .sound below) (c .in-Some .ensures tt .answer)
+pub forward-requires : goal.forward-requires
+forward-requires g c =
+    let below = c.args.self.now.below in
+    claimed_fits (g.A.Clock.meaning below).width c.in-Some.point (g.A.Alarm.appointment below) (g.met.A.Clock.lawful below).width_high
+    (g.met.A.Alarm.sound below) c.in-Some.ensures.answer

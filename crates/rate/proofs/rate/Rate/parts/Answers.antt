@@ -1,14 +1,14 @@
-use native.Mathlib.Omega.{arith}
-use Rattle·rate·proofs.Rated.{parts-fit}
-use Rattle·rate·proofs.rate.Rate.parts.Needs as need
+use Rattle.std.proofs.Common.{arith}
+use Rattle.rate.specs.Rated.{parts_fit}
+use Rattle.rate.proofs.rate.Rate.parts.Goals as goal
 
-pub mul-result : need.mul-result
-mul-result g c =
-    let s = c .args .self .now in
-    let fit = parts-fit (s .ratio .gains) (s .ratio .ticks) (s .remainder) (c .args .ticks) (s .ratio .slow) (s .ratio .high) (s .small) (c .pre) in
+pub overflow-mul-result : goal.overflow-mul-result
+overflow-mul-result g c =
+    let s = c.args.self.now in
+    let fit = parts_fit s.ratio.gains s.ratio.ticks s.remainder c.args.ticks s.ratio.slow s.ratio.high s.small c.requires in
     record { fits = omega arith }
 
-pub add-result : need.add-result
-add-result g c =
-    let s = c .args .self .now in
-    record { fits = parts-fit (s .ratio .gains) (s .ratio .ticks) (s .remainder) (c .args .ticks) (s .ratio .slow) (s .ratio .high) (s .small) (c .pre) }
+pub overflow-add-result : goal.overflow-add-result
+overflow-add-result g c =
+    let s = c.args.self.now in
+    record { fits = parts_fit s.ratio.gains s.ratio.ticks s.remainder c.args.ticks s.ratio.slow s.ratio.high s.small c.requires }

@@ -1,28 +1,28 @@
-use mathlib.Core.Path.{_≡_, refl, ap, _∙_}
-use Rattle·clock.specs.Hold.{wait-for}
-use Rattle·rate·specs.Rate.{rate-meaning}
-use Rattle·rate·proofs.Rated.{left-fits, left-above, rate-wait}
-use Rattle·rate·proofs.rate.Rate.wait.Needs as need
+use Rattle.std.proofs.Common.{◌≡◌, refl, ap, ◌∙◌}
+use Rattle.clock.specs.Hold.{wait_for}
+use Rattle.rate.specs.Rate.{rate_meaning}
+use Rattle.rate.specs.Rated.{left_fits, left_above, rate_wait}
+use Rattle.rate.proofs.rate.Rate.wait.Goals as goal
 
-pub mul-parts : need.mul-parts
-mul-parts g c =
-    let s = c .args .self .now in
-    record { fits = left-fits (s .ratio .ticks) (c .args .left) (s .ratio .high) (c .pre .1) }
+pub overflow-mul-parts : goal.overflow-mul-parts
+overflow-mul-parts g c =
+    let s = c.args.self.now in
+    record { fits = left_fits s.ratio.ticks c.args.left s.ratio.high c.requires.1 }
 
-pub sub-parts : need.sub-parts
-sub-parts g c =
-    let s = c .args .self .now in
-    left-above (s .ratio .ticks) (s .remainder) (c .args .left) (s .small) (c .pre .0)
+pub overflow-sub-parts : goal.overflow-sub-parts
+overflow-sub-parts g c =
+    let s = c.args.self.now in
+    left_above s.ratio.ticks s.remainder c.args.left s.small c.requires.0
 
-pub returns : need.returns
+pub returns : goal.returns
 returns g c =
-    let s = c .args .self .now in
-    let m = g .A·Clock .meaning (s .below) in
+    let s = c.args.self.now in
+    let m = g.A.Clock.meaning s.below in
     record {
       answer =
-          c .ticks-until .ensures .answer ∙ ap (wait-for m) (c .div-ceil-needed .ensures)
-          ∙ rate-wait (s .ratio .gains) (s .ratio .ticks) (s .remainder) (s .ratio .some) (s .ratio .slow) (s .small)
-          m (g .A·Clock·met .lawful (s .below)) (s .count) (c .args .left);
-      clock = ap (λ x. rate-meaning x (s .ratio .gains) (s .ratio .ticks) (s .remainder) (s .count)) (c .ticks-until .ensures .clock);
+          c.ticks-until.ensures.answer ∙ ap (wait_for m) c.div-ceil-needed.ensures
+          ∙ rate_wait s.ratio.gains s.ratio.ticks s.remainder s.ratio.some s.ratio.slow s.small
+          m (g.met.A.Clock.lawful s.below) s.count c.args.left;
+      clock = ap (λ x. rate_meaning x s.ratio.gains s.ratio.ticks s.remainder s.count) c.ticks-until.ensures.clock;
       kept = refl;
     }

@@ -1,10 +1,9 @@
-use mathlib.Core.Path.{refl}
-use native.Mathlib.Omega.{arith}
-use Rattle·std.proofs.shelf.Lists.{take-more-set}
-use Rattle·script·proofs.lines.Script.add.Needs as need
+use Rattle.std.proofs.Common.{refl, arith}
+use Rattle.std.proofs.lemmas.List.{take_more_set}
+use Rattle.script.proofs.lines.Script.add.Goals as goal
 
-pub returns : need.returns
+pub returns : goal.returns
 returns c = record {
-  lines = take-more-set (c .args .self .now .lines) (c .args .self .now .count) (c .args .line) (omega arith);
+  lines = take_more_set c.args.self.now.lines c.args.self.now.count c.args.line (omega arith);
   count = refl;
 }

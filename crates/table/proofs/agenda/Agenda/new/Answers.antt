@@ -1,5 +1,5 @@
-use Rattle·queue.proofs.Queued.{queued-none}
-use Rattle·table·proofs.agenda.Agenda.new.Needs as need
+use Rattle.queue.proofs.Queued.{queued_none}
+use Rattle.table.proofs.agenda.Agenda.new.Goals as goal
 
-pub returns : need.returns
-returns c = queued-none (c .new .result) _ (c .new .ensures)
+pub returns : goal.returns
+returns c = queued_none c.new.result _ c.new.ensures

@@ -1,10 +1,10 @@
-use Rattle·clock.specs.Kept.{within}
-use borrow.Author.Needs.{needs}
-use Rattle·up·proofs.UpCounters.{up-accepted}
-use Rattle·up·proofs.up.UpCounter.accept.Needs as need
+use Rattle.clock.specs.Kept.{within}
+use Rattle.std.proofs.Common.{rules}
+use Rattle.up.specs.UpCounters.{up_accepted}
+use Rattle.up.proofs.up.UpCounter.accept.Goals as goal
 
-pub returns : need.returns
+pub returns : goal.returns
 returns c =
-    let s = c .args .self .now in
-    up-accepted (s .width .bits) (s .last) (s .tag) (c .args .sample .0) (c .args .gained) (within (s .width .bits) (s .kept .appointment)) (within (s .width .bits) (c .take .last .self .appointment))
-    (s .fits) (search needs) (search needs) (search needs)
+    let s = c.args.self.now in
+    up_accepted s.width.bits s.last s.tag c.args.sample.0 c.args.gained (within s.width.bits s.kept.appointment) (within s.width.bits c.take.new.self.appointment)
+    s.fits (search rules) (search rules) (search rules)
