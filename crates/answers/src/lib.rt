@@ -1,4 +1,6 @@
 // What `replay` answers to the lines of a log, and the text of each answer.
+#![tactic(auto)]
+
 ghost use Rattle.std.specs.Prelude.{Some};
 ghost use Rattle.answers.specs.Text.{alarm_text, fired_text, logger_text, answer_text};
 

@@ -1,4 +1,6 @@
 // Records kept in the order in which they came, over a row that the caller lends.
+#![tactic(auto)]
+
 mod books;
 mod records;
 

@@ -1,4 +1,6 @@
 // Tickets in right use: a program keeps one on a desk, settles it from there, and sets up another errand.
+#![tactic(auto)]
+
 ghost use Rattle.logger.specs.State.{view};
 ghost use Rattle.errands.specs.Errands.{PutOff};
 

@@ -1,4 +1,6 @@
 // What a refused call answers: why it was refused, in which part, and at which place.
+#![tactic(auto)]
+
 ghost use Rattle.std.specs.Prelude.{◌≡◌, Some};
 ghost use Rattle.fault.specs.Table.{number_of, in_device, in_alarm, in_logger, in_slot, in_script, in_book, in_lead};
 ghost use Rattle.fault.specs.Text.{part_text, fault_text};

@@ -1,4 +1,6 @@
 // Prints when the jobs of a script on standard input fire: its first firings from moment 0, or why it is refused.
+#![tactic(auto)]
+
 ghost use Rattle.std.specs.Prelude.{◌≤◌, length, IfOk};
 
 use listing::listing;

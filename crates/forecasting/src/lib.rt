@@ -1,4 +1,6 @@
 // When the jobs of a script fire.
+#![tactic(auto)]
+
 ghost use Rattle.std.specs.Prelude.{◌≡◌, length};
 ghost use Rattle.forecasting.specs.Forecast.{forecast_of, places, how_many, row_after, ForecastLaw};
 

@@ -1,4 +1,6 @@
 // One line of a script: its grammar, and what it is read as.
+#![tactic(auto)]
+
 ghost use Rattle.std.specs.Prelude.{◌≡◌, ◌+◌, ◌≤◌, length, drop};
 ghost use Rattle.words.specs.Cuts.{first_piece};
 ghost use Rattle.line.specs.Line.{line_at};

@@ -1,4 +1,6 @@
 // The listing of a script: a line for each of its first firings, or the text of its fault.
+#![tactic(auto)]
+
 ghost use Rattle.std.specs.Prelude.{◌≡◌, ◌≤◌, length};
 ghost use Rattle.forecasting.specs.Forecast.{places, how_many, row_after};
 ghost use Rattle.listing.specs.Listing.{listed, listing_text, copy_answer, copied};

@@ -1,4 +1,6 @@
 // A layer over any alarm that sets its reading forward.
+#![tactic(auto)]
+
 mod offset;
 mod shift;
 

@@ -1,4 +1,6 @@
 // The promise about two loggers, on the call that answers whether two loggers start alike.
+#![tactic(auto)]
+
 ghost use Rattle.std.specs.Prelude.{◌≡◌, T};
 ghost use Rattle.logger.specs.State.{view};
 ghost use Rattle.promise.specs.Example.{Occurring};

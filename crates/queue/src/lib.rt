@@ -1,4 +1,6 @@
 // A queue that gives back the least of its records, over rows that the caller lends.
+#![tactic(auto)]
+
 mod dues;
 mod queues;
 mod rows;

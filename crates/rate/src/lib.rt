@@ -1,4 +1,6 @@
 // A layer over any alarm that runs slower, by a fixed ratio.
+#![tactic(auto)]
+
 mod rate;
 mod ratio;
 

@@ -1,4 +1,6 @@
 // Replays a log of calls: reads one call to a line, and prints one line with what was answered.
+#![tactic(auto)]
+
 mod call;
 mod command;
 mod lines;

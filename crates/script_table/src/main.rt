@@ -1,5 +1,7 @@
 // A table of scripts and their listings. Each line of standard input is a script, in which `;` stands for byte 10;
 // what is printed is that line, cut at 60 bytes, and then the script's listing.
+#![tactic(auto)]
+
 ghost use Rattle.std.specs.Prelude.{◌≡◌, length};
 
 use listing::listing;

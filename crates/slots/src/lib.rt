@@ -1,4 +1,6 @@
 // One slot: what a call answers for it, what a firing makes of it, and how far off its due moment is.
+#![tactic(auto)]
+
 ghost use Rattle.std.specs.Prelude.{◌≡◌, ◌+◌, ◌-◌, ◌^◌, min, true, false, OnOk};
 ghost use Rattle.slots.specs.Limits.{kind_fits};
 ghost use Rattle.slots.specs.Slots.{taken, set_up_slot, call_off_slot, settle_slot, again, fired, capped, coming, distance};

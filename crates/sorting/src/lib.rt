@@ -1,4 +1,6 @@
 // The law of the queue: what is put in comes out in order, all of it, once.
+#![tactic(auto)]
+
 mod sorting;
 
 pub use sorting::{drain, in_order};

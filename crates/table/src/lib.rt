@@ -1,4 +1,6 @@
 // The slot table of a logger, with the queue of the slots that stand.
+#![tactic(auto)]
+
 ghost use Rattle.std.specs.Prelude.{◌≡◌, length};
 ghost use Rattle.table.specs.Agenda.{agenda_dues};
 ghost use Rattle.table.specs.Dues.{planned};

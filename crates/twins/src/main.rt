@@ -2,6 +2,8 @@
 //
 // Both read the same moments, while their samples, their other jobs, their refusals and their holds differ. What
 // `start_alike` promises of such a pair is shown here on one run: the job fires alike in both.
+#![tactic(auto)]
+
 mod build;
 mod halt;
 mod report;

@@ -1,4 +1,6 @@
 // A layer over any alarm that widens its reading.
+#![tactic(auto)]
+
 mod bits;
 mod widening;
 

@@ -1,4 +1,6 @@
 // The worked numbers of the library: shown against the definitions, and run through the code.
+#![tactic(auto)]
+
 ghost use Rattle.std.specs.Prelude.{◌≡◌, length, Ok};
 ghost use Rattle.worked.specs.Cases.{cases, All_true};
 
