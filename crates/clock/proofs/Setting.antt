@@ -1,5 +1,5 @@
 -- An appointment that is set from the present reading: it stands with its whole delay. Assumes nothing.
-use Rattle.std.proofs.Common.{◌≡◌, ℕ, ◌+◌, ◌-◌, ◌%◌, ◌^◌, ◌<◌, ◌≤◌, Bool, true, false, cond, ◌&&◌, ltb, ◌⊎◌, Ok, Err, Result, sym, refl, ap, ◌∙◌, subst, inl, inr, ⊎_elim, arith}
+use Rattle.std.proofs.Common.{◌≡◌, ℕ, ◌+◌, ◌-◌, ◌^◌, ◌<◌, ◌≤◌, Bool, true, ◌&&◌, ltb, Ok, Err, Result, ap, ◌∙◌, ⊎_elim, arith}
 use native.Mathlib.Nat.{mod_self}
 use Rattle.std.proofs.lemmas.Bool.{lt-ltb, le-ltb, and_from, and_right, cond-true, cond-false, cases_lt}
 use Rattle.fault.specs.declared.Fault.{Fault}
@@ -8,10 +8,10 @@ use Rattle.clock.specs.declared.appointment.Appointment.{Appointment}
 use Rattle.clock.specs.declared.appointment.Appointment.TheVariants.{Idle, Standing}
 use Rattle.clock.specs.Wrap.{minus}
 use Rattle.clock.specs.Meaning.{Meaning, Lawful}
-use Rattle.clock.specs.Appointment.{placed, set_row, setting, told, left_by}
-use Rattle.clock.specs.Hold.{wait_for, Waits}
+use Rattle.clock.specs.Appointment.{setting, told, left_by}
+use Rattle.clock.specs.Hold.{wait_for}
 use Rattle.clock.specs.Calls.{StoppedBy, SetTo, HeldFor}
-use Rattle.clock.proofs.Waiting.{wait_never, turn_never, waits}
+use Rattle.clock.proofs.Waiting.{wait_never, turn_never}
 
 -- no time has passed since the present reading
 pub no_age : (w reading : ℕ) → reading < 2 ^ w → minus w reading reading ≡ 0

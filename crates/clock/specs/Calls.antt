@@ -1,6 +1,6 @@
 -- The calls of an alarm: each relates the clock and the appointment before and after, and the answer.
 -- Assumes nothing.
-use Rattle.std.specs.Prelude.{◌≡◌, ℕ, ◌<◌, Bool, List, [], Ok, Err, Option, Result, ◌≢◌}
+use Rattle.std.specs.Prelude.{◌≡◌, ℕ, ◌<◌, Bool, [], Ok, Err, Option, Result, ◌≢◌}
 use Rattle.fault.specs.declared.Fault.{Fault}
 use Rattle.fault.specs.Table.{stray_sample}
 use Rattle.clock.specs.Meaning.{Meaning, advanced}

@@ -1,4 +1,4 @@
-use Rattle.std.proofs.Common.{◌≡◌, ℕ, ◌-◌, ◌<◌, sym, refl, ap, ◌∙◌, subst, arith}
+use Rattle.std.proofs.Common.{◌≡◌, ℕ, ◌-◌, ◌<◌, sym, refl, ap, ◌∙◌, arith}
 use Rattle.clock.specs.Meaning.{Meaning}
 use Rattle.clock.specs.Hold.{wait_for, Waits}
 use Rattle.clock.proofs.Waiting.{waits, wait_nought}
