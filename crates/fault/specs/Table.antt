@@ -3,9 +3,7 @@
 use Rattle.std.specs.Prelude.{ℕ}
 use Rattle.fault.specs.declared.Cause.{Cause}
 use Rattle.fault.specs.declared.Cause.TheVariants.{StraySample, BadSetting, MomentLimit, NoSlot, Taken, SlotFree, SlotErrand, ReferenceAhead, OutOfLimits, ForeignTicket, NoPlace, Grammar, HalfTurn}
-use Rattle.fault.specs.declared.Part.{Part}
 use Rattle.fault.specs.declared.Part.TheVariants.{Device, Alarm, Logger, Script, Book, Lead}
-use Rattle.fault.specs.declared.Place.{Place}
 use Rattle.fault.specs.declared.Place.TheVariants.{Tag, Nought, Slot, Line, Length}
 use Rattle.fault.specs.declared.Fault.{Fault}
 

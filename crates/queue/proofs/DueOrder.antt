@@ -1,7 +1,7 @@
 -- The order of due records: what less means, and that ties are the same record. Assumes nothing.
-use Rattle.std.proofs.Common.{◌≡◌, ℕ, ◌<◌, true, false, ◌⊎◌, Ordering, Less, Equal, Greater, sym, refl, ap, inl, inr, true≢false, arith}
+use Rattle.std.proofs.Common.{◌≡◌, ◌<◌, true, Ordering, Less, Equal, Greater, sym, refl, ap, inl, inr, true≢false, arith}
 use Rattle.std.specs.Cmp.{ranks}
-use Rattle.std.specs.Ordering.{is_lt, is_eq, is_gt, ordering_then, MatchOrdering, nat_cmp}
+use Rattle.std.specs.Ordering.{is_lt, is_gt, ordering_then, MatchOrdering, nat_cmp}
 use Rattle.queue.specs.declared.dues.Due.{Due}
 use Rattle.queue.specs.Due.{due_compare, due_order, Earlier}
 use Rattle.queue.specs.Order.{Strict}

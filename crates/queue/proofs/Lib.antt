@@ -1,4 +1,5 @@
 -- Lemmas that several proofs share.
+pub mod Drained
 pub mod DueOrder
 pub mod Lookups
 pub mod Moves

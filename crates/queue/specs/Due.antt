@@ -1,8 +1,8 @@
 -- The order of due records: by moment, and the lower slot on a tie.
 -- Assumes nothing.
-use Rattle.std.specs.Prelude.{◌≡◌, ℕ, ◌<◌, ◌⊎◌}
+use Rattle.std.specs.Prelude.{◌≡◌, ◌<◌, ◌⊎◌}
 use Rattle.std.specs.declared.cmp.Ordering.{Ordering}
-use Rattle.std.specs.Cmp.{IsTotalOrder, nat_cmp_total, pairs}
+use Rattle.std.specs.Cmp.{IsTotalOrder, nat_cmp_total, on_total, then_total}
 use Rattle.std.specs.Ordering.{ordering_then, nat_cmp}
 use Rattle.queue.specs.declared.dues.Due.{Due}
 
@@ -17,16 +17,6 @@ due_orders x y r = r ≡ due_compare x y
 abbrev pub Earlier : Due → Due → Type 0
 Earlier x y = (x.moment < y.moment) ⊎ ((x.moment ≡ y.moment) × (x.slot < y.slot))
 
--- the fields in the order in which they count
-abbrev key : Due → ℕ × ℕ
-key x = (x.moment, x.slot)
-
 -- a total order, as the queue asks for one
-abbrev pub due_order : IsTotalOrder due_orders
-due_order = record {
-  cmp = due_compare;
-  says = λ x y r h. h;
-  flip = λ x y. (pairs nat_cmp_total nat_cmp_total).antisymm (key x) (key y);
-  trans = λ x y z. (pairs nat_cmp_total nat_cmp_total).trans (key x) (key y) (key z);
-  alike = λ x y z. (pairs nat_cmp_total nat_cmp_total).alike (key x) (key y) (key z);
-}
+abbrev pub due_order : IsTotalOrder due_compare
+due_order = then_total (on_total (λ x. x.moment) nat_cmp_total) (on_total (λ x. x.slot) nat_cmp_total)

@@ -1,7 +1,8 @@
 // When a slot is next due, as the queue keeps it.
 ghost use Rattle.std.specs.Prelude.{◌≡◌, true, Some, Decides, refl};
 ghost use Rattle.std.specs.Cmp.{IsTotalOrder, partial_order_from_agreeing_total};
-ghost use Rattle.std.specs.Ordering.{nat_cmp, on, then_cmp};
+ghost use Rattle.std.specs.declared.cmp.Ordering.{Ordering};
+ghost use Rattle.queue.specs.declared.dues.Due.{Due};
 ghost use Rattle.queue.specs.Due.{due_compare, due_orders, due_order, Earlier};
 ghost use Rattle.queue.specs.Order.{Strict};
 ghost use Rattle.std.specs.Cmp.Rules.{comparing};
@@ -17,9 +18,9 @@ pub struct Due {
 
 // By moment, and the lower slot on a tie.
 impl Ord for Due {
-    ghost cmp = { then_cmp (on (λ v. v.moment) nat_cmp) (on (λ v. v.slot) nat_cmp) };
+    ghost cmp = { due_compare };
 
-    ghost total = { Prim.search (comparing, rules) };
+    ghost total = { due_order };
 
     ghost matches_partial_cmp = { Prim.search (comparing, rules) };
 
@@ -35,7 +36,7 @@ impl Ord for Due {
 impl PartialOrd for Due {
     ghost partial_cmp = { λ x y. Some (due_compare x y) };
 
-    ghost laws = { partial_order_from_agreeing_total (λ x y. due_compare x y) (Prim.search (comparing, rules)) (λ _ _. refl) (Prim.search (comparing, rules)) };
+    ghost laws = { partial_order_from_agreeing_total due_compare due_order (λ _ _. refl) (Prim.search (comparing, rules)) };
 
     fn partial_cmp(&self, other: &Due) -> Option<Ordering> {
         Some(self.cmp(other))
@@ -54,7 +55,8 @@ impl Due {
 // What a queue of due records rests on: their order is total, and ties are the same record.
 pub fn order_is_total() -> bool
     ensures answer { result ≡ true }
-    ensures total { IsTotalOrder due_orders }
+    ensures total { IsTotalOrder due_compare }
+    ensures orders { (x y : Due) (r : Ordering) → due_orders x y r → r ≡ due_compare x y }
     ensures strict { Strict due_order }
 {
     true
