@@ -1,6 +1,6 @@
 -- The text of an answer, without the end of its line.
 -- Assumes nothing.
-use Rattle.std.specs.Prelude.{ℕ, Bool, true, false, cond, List, ◌++◌, Some, None, codes, decimal, Option}
+use Rattle.std.specs.Prelude.{ℕ, cond, List, ◌++◌, Some, None, codes, decimal}
 use Rattle.fault.specs.Text.{fault_text}
 use Rattle.jobs.specs.declared.Action.{Action}
 use Rattle.jobs.specs.declared.Action.TheVariants.{Read, Mark}

@@ -1,4 +1,4 @@
-use Rattle.std.proofs.Common.{◌≡◌, ℕ, ◌-◌, ◌^◌, min, true, false, cond, ◌&&◌, length, get_or, take, Some, None, sym, refl, ap, ◌∙◌, arith, rules}
+use Rattle.std.proofs.Common.{◌≡◌, ◌-◌, ◌^◌, min, true, false, get_or, Some, sym, ap, ◌∙◌, arith}
 use Rattle.std.proofs.lemmas.List.{take_all}
 use Rattle.std.proofs.lemmas.Bool.{and_from, and_right, cond-true, cond-false}
 use Rattle.words.specs.Number.{plain, digit, digits, value_after}
@@ -33,4 +33,4 @@ returns c =
     let whole = take_all c.loop-b.b-index s c.loop-b-test.false in
     let all : digits s ≡ true = sym (ap digits whole) ∙ c.loop-b.invariant.1 in
     ap (λ n. Some n) (c.loop-b.invariant.0 ∙ ap (λ l. min (value_after 0 l) (2 ^ 64 - 1)) whole)
-    ∙ sym (cond-true _ _ _ (and_from _ _ (sym c.is-plain.ensures ∙ c.if-not-is-plain.false) all))
+    ∙ sym (cond-true _ _ _ (and_from _ _ (sym c.is_plain.ensures ∙ c.if-not-is_plain.false) all))
