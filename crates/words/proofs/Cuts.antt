@@ -1,15 +1,21 @@
 -- Cutting a text at a byte, and joining the pieces again. Assumes nothing.
-use Rattle.std.proofs.Common.{◌≡◌, ℕ, zero, suc, ◌+◌, ◌-◌, ◌<◌, ◌≤◌, Bool, true, false, cond, not, eqb, List, [], ◌∷◌, ◌++◌, length, take, drop, Some, sym, refl, ap, ◌∙◌, add-one, one-add, arith, length-drop}
+use Rattle.std.proofs.Common.{◌≡◌, ℕ, suc, ◌+◌, ◌-◌, ◌<◌, ◌≤◌, Bool, true, false, cond, not, eqb, List, [], ◌∷◌, ◌++◌, length, take, drop, Some, sym, refl, ap, ◌∙◌, add-one, one-add, arith, length-drop}
 use native.Mathlib.Nat.{sub-zero}
 use Rattle.std.specs.List.{prefix_len, AllByRecursion as All}
 use Rattle.std.proofs.lemmas.List.{take_all}
 use Rattle.std.proofs.lemmas.Bool.{eqb-true}
-use Rattle.words.specs.Cuts.{onto, cut, other, joined_by}
-use Rattle.words.specs.Words.{words_of, remaining, first_of, others_of}
+use Rattle.words.specs.Cuts.{cut, other, joined_by}
+use Rattle.words.specs.Words.{onto, words_of, remaining, first_of, others_of}
+use Rattle.words.specs.Letters.{letter}
 
 -- no byte is c
 abbrev pub Lacks : ℕ → List ℕ → Type 0
 Lacks c bs = All (λ b. eqb b c ≡ false) bs
+
+-- the words of a line are its pieces between spaces
+pub words_cut : (bs : List ℕ) → words_of bs ≡ cut 32 bs
+words_cut [] = refl
+words_cut (b ∷ bs) = ap (λ ws. cond (eqb b 32) ([] ∷ ws) (onto b ws)) (words_cut bs)
 
 -- there is always a piece
 pub cut_some : (c : ℕ) (bs : List ℕ) → (p : List ℕ) × (ps : List (List ℕ)) × (cut c bs ≡ p ∷ ps)
@@ -81,14 +87,15 @@ cut_more c (b ∷ bs) h = at (eqb b c) h (cut_more c bs)
         ∙ (rw (one-add n, add-one (suc n)) (rw add-one refl))
 
 -- a word that a space follows, and the last one, where more words are to be read
-module _ (s : List ℕ) (more : Bool) (end : ℕ) (open_still : more ≡ true) (is : end ≡ prefix_len (other 32) s) where
+module _ (s : List ℕ) (more : Bool) (end : ℕ) (open_still : more ≡ true) (is : end ≡ prefix_len letter s) where
   pub word_then : end < length s → (Some (take (end - 0) s) ≡ first_of (remaining s more)) × (remaining (take (length s - (end + 1)) (drop (end + 1) s)) more ≡ others_of (remaining s more))
   word_then h =
-      let cut : words_of s ≡ take end s ∷ words_of (drop (end + 1) s) = rw is (cut_more 32 s (omega (arith, is))) in
+      let cut : words_of s ≡ take end s ∷ words_of (drop (end + 1) s) =
+      words_cut s ∙ rw is (cut_more 32 s (omega (arith, is))) ∙ ap (λ ws. take end s ∷ ws) (sym (words_cut (drop (end + 1) s))) in
       let whole : take (length s - (end + 1)) (drop (end + 1) s) ≡ drop (end + 1) s = take_all _ _ (simp length-drop (omega arith)) in
       rw (open_still, cut, sub-zero end, whole) (refl, refl)
 
   pub word_last : length s ≤ end → (Some (take (end - 0) s) ≡ first_of (remaining s more)) × ([] ≡ others_of (remaining s more))
   word_last h =
-      let cut : words_of s ≡ take end s ∷ [] = cut_last 32 s (omega (arith, is)) ∙ ap (λ w. w ∷ []) (sym (take_all end s h)) in
+      let cut : words_of s ≡ take end s ∷ [] = words_cut s ∙ cut_last 32 s (omega (arith, is)) ∙ ap (λ w. w ∷ []) (sym (take_all end s h)) in
       rw (open_still, cut, sub-zero end) (refl, refl)

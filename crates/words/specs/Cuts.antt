@@ -2,11 +2,7 @@
 -- Assumes nothing.
 use Rattle.std.specs.Prelude.{ℕ, Bool, cond, not, List, [], ◌∷◌, ◌++◌, take, ◌==◌}
 use Rattle.std.specs.List.{prefix_len}
-
--- a byte put before the first piece
-abbrev pub onto : ℕ → List (List ℕ) → List (List ℕ)
-onto b [] = (b ∷ []) ∷ []
-onto b (p ∷ ps) = (b ∷ p) ∷ ps
+use Rattle.words.specs.Words.{onto}
 
 -- what stands between bytes c
 abbrev pub cut : ℕ → List ℕ → List (List ℕ)

@@ -7,6 +7,7 @@ ghost use Rattle.std.specs.List.{prefix_len};
 ghost use Rattle.words.specs.Cuts.{other, first_piece};
 ghost use Rattle.words.specs.Words.{words_of, remaining, first_of, others_of};
 ghost use Rattle.words.specs.Number.{plain, number_of};
+ghost use Rattle.words.specs.Letters.{letter};
 
 // A number in decimal, of any length: `0`, or digits with no 0 in front. One too large for 64 bits counts as the largest.
 pub fn number(word: &[u8]) -> Option<u64>
@@ -62,7 +63,7 @@ impl<'a> Words<'a> {
             return None;
         }
         let rest = self.rest;
-        let end = length_before(rest, b' ');
+        let end = word_length(rest);
         if end < rest.len() {
             self.rest = &rest[end + 1..];
         } else {
@@ -70,6 +71,14 @@ impl<'a> Words<'a> {
         }
         Some(&rest[0..end])
     }
+}
+
+// How many bytes stand before the first space, or in all where there is none.
+fn word_length(text: &[u8]) -> usize
+    ensures answer { result ≡ prefix_len letter text.now }
+    ensures within { result ≤ length text.now }
+{
+    length_before(text, b' ')
 }
 
 // What stands before the first byte `stop`, or the whole text where there is none.
