@@ -1,9 +1,8 @@
 -- The words of a text take up one byte more than it has. Assumes nothing.
-use Rattle.std.proofs.Common.{◌≡◌, ℕ, suc, ◌+◌, Bool, true, false, cond, eqb, List, [], ◌∷◌, length, sym, refl, ap, ◌∙◌, arith}
-use Rattle.words.specs.Cuts.{onto}
-use Rattle.words.specs.Words.{words_of}
+use Rattle.std.proofs.Common.{◌≡◌, ℕ, suc, ◌+◌, Bool, true, false, cond, eqb, List, [], ◌∷◌, length, refl, ◌∙◌, arith}
+use Rattle.words.specs.Words.{onto, words_of}
 use Rattle.line.specs.Extent.{extent}
-use Rattle.words.proofs.Cuts.{cut_some}
+use Rattle.words.proofs.Cuts.{words_cut, cut_some}
 
 extent_onto : (b : ℕ) (ws : List (List ℕ)) (v : List ℕ) (vs : List (List ℕ)) → ws ≡ v ∷ vs → extent (onto b ws) ≡ suc (extent ws)
 extent_onto b ws v vs e = rw e (omega arith)
@@ -16,4 +15,4 @@ extent_words (b ∷ bs) = at (eqb b 32) (extent_words bs)
     at true h = omega arith
     at false h =
         let some = cut_some 32 bs in
-        omega (arith, extent_onto b (words_of bs) some.0 some.1 some.2)
+        omega (arith, extent_onto b (words_of bs) some.0 some.1 (words_cut bs ∙ some.2))

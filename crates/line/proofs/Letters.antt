@@ -1,5 +1,5 @@
 -- The words of a line have neither spaces nor line ends in them. Assumes nothing.
-use Rattle.std.proofs.Common.{◌≡◌, ℕ, ◌^◌, ◌<◌, ◌≤◌, Bool, true, false, ◌&&◌, eqb, leb, List, [], ◌∷◌, ◌++◌, codes, decimal, sym, refl, ap, ◌∙◌, arith}
+use Rattle.std.proofs.Common.{◌≡◌, ℕ, ◌^◌, ◌<◌, ◌≤◌, Bool, true, false, ◌&&◌, eqb, leb, List, [], ◌∷◌, decimal, refl, ◌∙◌, arith}
 use Rattle.std.specs.List.{AllByRecursion as All}
 use Rattle.std.proofs.lemmas.Fmt.{digits_decimal}
 use Rattle.std.proofs.ByRecursion.{All-append, All-weaker}
@@ -13,7 +13,7 @@ use Rattle.jobs.specs.declared.Action.{Action}
 use Rattle.jobs.specs.declared.Action.TheVariants.{Read, Mark}
 use Rattle.line.specs.declared.line.Line.{Line}
 use Rattle.line.specs.Text.{action_words, kind_words, line_words, line_text}
-use Rattle.words.proofs.Cuts.{Lacks, cut_joined}
+use Rattle.words.proofs.Cuts.{Lacks, words_cut, cut_joined}
 use Rattle.line.proofs.Numbers.{own}
 
 -- digits and letters stand from 48 on
@@ -81,7 +81,7 @@ joined_lacks c (p ∷ (q ∷ qs)) n h =
 
 pub line_text_words : (l : Line) → Small l → words_of (line_text l) ≡ line_words l
 line_text_words l s =
-    cut_joined 32 _ _ refl (clean_lacks 32 (line_words l) (omega arith) (clean_line l s))
+    words_cut (line_text l) ∙ cut_joined 32 _ _ refl (clean_lacks 32 (line_words l) (omega arith) (clean_line l s))
 
 pub line_text_lacks : (l : Line) → Small l → Lacks 10 (line_text l)
 line_text_lacks l s = joined_lacks 10 (line_words l) refl (clean_lacks 10 (line_words l) (omega arith) (clean_line l s))

@@ -1,5 +1,5 @@
 -- The first of a table's records is the firing that comes soonest. Assumes nothing.
-use Rattle.std.proofs.Common.{◌≡◌, ℕ, zero, suc, ◌+◌, ◌<◌, ◌≤◌, Bool, true, false, cond, leb, ◌⊎◌, List, [], ◌∷◌, ◌++◌, length, get_or, Some, None, Option, sym, refl, ap, ◌∙◌, subst, inl, inr, arith}
+use Rattle.std.proofs.Common.{◌≡◌, ℕ, suc, ◌<◌, ◌≤◌, Bool, true, false, cond, leb, ◌⊎◌, List, [], ◌∷◌, Some, None, Option, refl, ap, ◌∙◌, inl, inr, arith}
 use Rattle.std.specs.Ordering.{is_lt}
 use Rattle.std.proofs.lemmas.Bool.{leb-true, leb-false, cond-true, cond-false}
 use Rattle.queue.specs.declared.dues.Due.{Due}
@@ -12,10 +12,9 @@ use Rattle.queue.proofs.Sorted.{in_order_cons}
 use Rattle.jobs.specs.declared.Slot.{Slot}
 use Rattle.jobs.specs.declared.Slot.TheVariants.{Free, Standing, Waiting}
 use Rattle.jobs.specs.declared.Firing.{Firing}
-use Rattle.slots.specs.Slots.{coming}
 use Rattle.table.specs.Table.{sooner, soonest}
 use Rattle.table.specs.Dues.{standing_dues, ready, ready_slot}
-use Rattle.table.proofs.Soonest.{Best, Answer, answered}
+use Rattle.table.proofs.Soonest.{Answer, answered}
 
 abbrev pub as_due : Firing → Due
 as_due f = record { moment = f.due; slot = f.slot }

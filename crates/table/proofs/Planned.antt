@@ -1,5 +1,5 @@
 -- The records of a table when one slot changes: the old one's record goes out, the new one's comes in. Assumes nothing.
-use Rattle.std.proofs.Common.{◌≡◌, ℕ, zero, suc, ◌+◌, ◌-◌, ◌<◌, ◌≤◌, List, [], ◌∷◌, ◌++◌, length, get_or, take, drop, set, Some, None, Option, sym, refl, ap, ◌∙◌, add-zero, add-suc, suc-add, zero-add, arith}
+use Rattle.std.proofs.Common.{◌≡◌, ℕ, suc, ◌+◌, ◌<◌, ◌≤◌, List, [], ◌∷◌, ◌++◌, length, get_or, take, drop, set, Some, None, Option, sym, refl, ap, ◌∙◌, add-zero, zero-add, arith}
 use mathlib.Core.Logic.{∥∥₁_elim}
 use base.Stored.{Coded-set, coded_list}
 use Rattle.std.proofs.lemmas.List.{append_assoc, length-append, length-take-le, length-drop, set-get_or, set_split}
@@ -11,7 +11,7 @@ use Rattle.queue.proofs.DueOrder.{due_strict}
 use Rattle.queue.proofs.Ordered.{length_added}
 use Rattle.queue.proofs.Sorted.{in_order_middle, without_in_order}
 use Rattle.jobs.specs.declared.Slot.{Slot}
-use Rattle.jobs.specs.declared.Slot.TheVariants.{Free, Standing, Waiting}
+use Rattle.jobs.specs.declared.Slot.TheVariants.{Free}
 use Rattle.table.specs.Dues.{due_of, listed, standing_dues, planned, noted, forgotten}
 
 -- ---- an equation that a ghost field holds

@@ -1,6 +1,6 @@
 -- The standing slots of a table as due records, in the order in which they come due; and one record more or less among them.
 -- Assumes nothing.
-use Rattle.std.specs.Prelude.{ℕ, suc, Bool, cond, List, [], ◌∷◌, ◌++◌, Some, None, Option, nat_le}
+use Rattle.std.specs.Prelude.{ℕ, suc, cond, List, [], ◌∷◌, ◌++◌, Some, None, Option, nat_le}
 use Rattle.queue.specs.declared.dues.Due.{Due}
 use Rattle.queue.specs.Due.{due_order}
 use Rattle.queue.specs.Row.{first}

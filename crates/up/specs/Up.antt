@@ -1,6 +1,6 @@
 -- The up-counter of w bits: its sample is the raw reading, and it gains one tick with each true tick.
 -- Assumes nothing.
-use Rattle.std.specs.Prelude.{ℕ, ◌+◌, ◌^◌, Bool, true, false, cond, ◌&&◌, Ok, Err, Result, nat_le, nat_lt}
+use Rattle.std.specs.Prelude.{ℕ, ◌+◌, ◌^◌, cond, ◌&&◌, Ok, Err, Result, nat_le, nat_lt}
 use Rattle.fault.specs.declared.Fault.{Fault}
 use Rattle.fault.specs.Table.{stray_sample, bad_device}
 use Rattle.clock.specs.Wrap.{plus}

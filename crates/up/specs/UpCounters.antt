@@ -1,11 +1,11 @@
 -- The up-counter keeps the laws of a clock, and moves as a clock moves. Assumes nothing.
-use Rattle.std.specs.Prelude.{◌≡◌, ℕ, ◌+◌, ◌-◌, ◌%◌, ◌^◌, ◌<◌, ◌≤◌, min, List, [], ◌∷◌, refl}
+use Rattle.std.specs.Prelude.{◌≡◌, ℕ, ◌+◌, ◌-◌, ◌%◌, ◌^◌, ◌<◌, ◌≤◌, min, List, refl}
 use Rattle.std.proofs.Common.{sym, ap, ◌∙◌, ⊎_elim, mod-lt, zero-add, arith, pow_pos, pow_mono}
 use Rattle.std.proofs.Math.Nat.{mod-add-mod}
 use Rattle.clock.specs.Wrap.{plus, minus}
-use Rattle.clock.specs.Meaning.{Meaning, Counts, Lawful, advanced, total}
+use Rattle.clock.specs.Meaning.{Counts, Lawful, advanced, total}
 use Rattle.up.specs.Up.{up_meaning}
-use Rattle.clock.specs.Hold.{wait_for, Least, Never}
+use Rattle.clock.specs.Hold.{wait_for, Least}
 use Rattle.up.specs.declared.up.Word.{Word}
 use Rattle.clock.specs.declared.appointment.Appointment.{Appointment}
 use Rattle.clock.specs.Appointment.{after_take}

@@ -4,18 +4,13 @@ use Rattle.std.proofs.lemmas.Bool.{and_from, and_right, cond-true, cond-false}
 use Rattle.words.specs.Number.{plain, digit, digits, value_after}
 use Rattle.words.proofs.Numbers.{digit_in, digit_below, digit_above, digits_broken, digits_more, value_more}
 use Rattle.words.proofs.number.Goals as goal
-use Rattle.words.proofs.number.Goals.{then-b-lt48-via-then-b-lt48, then-b-lt48-via-else-b-lt48+then-b-gt57}
 
 pub returns-then-b-lt48 : goal.returns-then-b-lt48
 returns-then-b-lt48 c =
     let s = c.args.word.now in
     let i = c.loop-b.b-index in
     let b = get_or s i 0 in
-    let none : digit b ≡ false =
-    elim c.then-b-lt48.branch [
-      | then-b-lt48-via-then-b-lt48 w ↦ digit_below b w.if-b-lt48.true
-      | then-b-lt48-via-else-b-lt48+then-b-gt57 w ↦ digit_above b w.if-b-gt57.true
-    ] in
+    let none : digit b ≡ false = grind (arith, digit_below, digit_above) in
     sym (cond-false _ _ _ (and_right (plain s) _ (digits_broken s i c.loop-b-test.true none)))
 
 pub loop-b-preserved : goal.loop-b-preserved
@@ -24,7 +19,7 @@ loop-b-preserved c =
     let i = c.loop-b.b-index in
     let within = c.loop-b-test.true in (
       omega (arith, value_more s i within (2 ^ 64 - 1), c.loop-b.invariant.0),
-      digits_more s i within c.loop-b.invariant.1 (digit_in (get_or s i 0) c.if-b-lt48.false c.if-b-gt57.false),
+      digits_more s i within c.loop-b.invariant.1 (digit_in (get_or s i 0) (omega arith) (omega arith)),
     )
 
 pub returns : goal.returns

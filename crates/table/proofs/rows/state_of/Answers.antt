@@ -13,4 +13,4 @@ nth_or (x ∷ xs) (suc j) = nth_or xs j
 pub returns : goal.returns
 returns c =
     let found = c.copied.ensures ∙ nth_from_item c.args.slots.now c.args.slot c.get.result c.get.ensures.lookup in
-    c.unwrap-or.ensures ∙ ap (λ o. unwrap_or o Free) found ∙ nth_or c.args.slots.now c.args.slot
+    c.unwrap_or.ensures ∙ ap (λ o. unwrap_or o Free) found ∙ nth_or c.args.slots.now c.args.slot

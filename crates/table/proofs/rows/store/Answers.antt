@@ -18,19 +18,19 @@ pub note-requires : goal.note-requires
 note-requires c =
     let slots = c.args.slots.now in
     let j = c.args.slot in
-    let left = out slots j c.args.agenda.now c.forget.new.self c.state-of.result c.record-of.result c.requires.place c.requires.tied c.state-of.ensures c.record-of.ensures c.forget.ensures in
+    let left = out slots j c.args.agenda.now c.forget.new.self c.state_of.result c.record_of.result c.requires.place c.requires.tied c.state_of.ensures c.record_of.ensures c.forget.ensures in
     subst (λ l. length l < 32) (sym left) (others_short slots j c.requires.place c.requires.size)
 
 pub returns : goal.returns
 returns c =
     let slots = c.args.slots.now in
     let j = c.args.slot in
-    let left = out slots j c.args.agenda.now c.forget.new.self c.state-of.result c.record-of.result c.requires.place c.requires.tied c.state-of.ensures c.record-of.ensures c.forget.ensures in
+    let left = out slots j c.args.agenda.now c.forget.new.self c.state_of.result c.record_of.result c.requires.place c.requires.tied c.state_of.ensures c.record_of.ensures c.forget.ensures in
     record {
       table = refl;
       agenda =
           c.note.ensures
-          ∙ ap (λ o. noted o (agenda_dues c.forget.new.self)) c.record-of-2.ensures
+          ∙ ap (λ o. noted o (agenda_dues c.forget.new.self)) c.record_of-2.ensures
           ∙ ap (noted (due_of j c.args.state)) left
           ∙ sym (planned_set slots j c.args.state c.requires.place);
     }

@@ -6,10 +6,10 @@ use Rattle.book.specs.Book.{places, filled}
 use Rattle.book.proofs.Kept as lemmas
 use Rattle.book.proofs.books.Book.add.Goals as goal
 
-pub returns-then-is-full : goal.returns-then-is-full
-returns-then-is-full g c =
+pub returns-then-is_full : goal.returns-then-is_full
+returns-then-is_full g c =
     let b = c.args.self.now in
-    let full : length (places b) ≤ filled b = leb-true (length (places b)) (filled b) (sym c.is-full.ensures ∙ c.if-is-full.true) in
+    let full : length (places b) ≤ filled b = leb-true (length (places b)) (filled b) (sym c.is_full.ensures ∙ c.if-is_full.true) in
     record {
       answer = ap Err (c.in_book.ensures ∙ ap no_place c.capacity.ensures) ∙ sym (lemmas.answer_when_full b full);
       kept = sym (lemmas.kept_when_full b full c.args.«record»);
@@ -21,7 +21,7 @@ returns-then-is-full g c =
 pub returns : goal.returns
 returns g c =
     let b = c.args.self.now in
-    let free : filled b < length (places b) = leb-false (length (places b)) (filled b) (sym c.is-full.ensures ∙ c.if-is-full.false) in
+    let free : filled b < length (places b) = leb-false (length (places b)) (filled b) (sym c.is_full.ensures ∙ c.if-is_full.false) in
     record {
       answer = sym (lemmas.answer_when_free b free);
       kept =

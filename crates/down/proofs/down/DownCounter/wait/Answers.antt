@@ -1,4 +1,4 @@
-use Rattle.std.proofs.Common.{◌≡◌, min, ap, ◌∙◌}
+use Rattle.std.proofs.Common.{min, ap, ◌∙◌}
 use Rattle.down.specs.DownCounters.{down_wait}
 use Rattle.down.proofs.down.DownCounter.wait.Goals as goal
 

@@ -3,7 +3,7 @@ use Rattle.logger.specs.Within.{table_fits}
 use Rattle.logger.proofs.Fitting.{fits_set}
 use Rattle.logger.proofs.logger.Logger.put.Goals as goal
 
-pub invariant-of-self : goal.invariant-of-self
-invariant-of-self g c =
+pub invariant_of-self : goal.invariant_of-self
+invariant_of-self g c =
     let s = c.args.self.now in
-    (ap table_fits c.put.ensures ∙ fits_set s.table.slots c.args.slot c.args.state s.limits c.requires, tt)
+    record { limits = ap table_fits c.put.ensures ∙ fits_set s.table.slots c.args.slot c.args.state s.limits c.requires }

@@ -1,4 +1,4 @@
-use Rattle.std.proofs.Common.{◌≡◌, ℕ, ◌-◌, min, sym, refl, ap, ◌∙◌}
+use Rattle.std.proofs.Common.{◌-◌, min, ap, ◌∙◌}
 use Rattle.up.specs.UpCounters.{up_wait}
 use Rattle.up.proofs.up.UpCounter.wait.Goals as goal
 
