@@ -1,18 +1,18 @@
 -- The law of next: what it answers is due, and no standing slot is earlier, nor a lower one as early. Assumes nothing.
-use Rattle.std.proofs.Common.{◌≡◌, ℕ, ◌<◌, ◌≤◌, Bool, true, false, cond, leb, ◌⊎◌, length, get_or, Some, None, Option, sym, refl, ap, ◌∙◌, subst, inl, inr, arith}
+use Rattle.std.proofs.Common.{◌≡◌, ℕ, ◌<◌, ◌≤◌, Bool, true, false, cond, leb, ◌⊎◌, get_or, Some, None, Option, sym, refl, ap, ◌∙◌, subst, inl, inr, arith}
 use Rattle.std.proofs.lemmas.Bool.{leb-true, leb-false, cases_order}
 use Rattle.jobs.specs.declared.Slot.{Slot}
 use Rattle.jobs.specs.declared.Slot.TheVariants.{Free, Standing, Waiting}
 use Rattle.jobs.specs.declared.Firing.{Firing}
-use Rattle.slots.specs.Slots.{fired, coming}
+use Rattle.slots.specs.Slots.{coming}
 use Rattle.table.specs.Dues.{ready, ready_slot}
 use Rattle.table.specs.Table.{soonest}
 use Rattle.table.proofs.Soonest.{never, Best, Answer, answered, coming_at}
 use Rattle.table.proofs.Least.{its_due, ready_is}
-use Rattle.logger.specs.State.{Log, slot_of, with_slot}
+use Rattle.logger.specs.State.{Log, slot_of}
 use Rattle.logger.specs.Calls.{if_due, next_answer, after_next, First, Quiet, NextLaw}
 use Rattle.logger.specs.Within.{Reached}
-use Rattle.logger.specs.Choice.{Taken, Chosen}
+use Rattle.logger.specs.Choice.{Chosen}
 
 pub next_law : {X : Type 0} (l : Log X) → NextLaw l (next_answer l)
 next_law l = by (soonest l.moment 0 l.slots) (answered l.moment 0 l.slots)

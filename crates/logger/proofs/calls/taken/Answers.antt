@@ -1,4 +1,4 @@
-use Rattle.std.proofs.Common.{◌≡◌, ℕ, ◌^◌, ◌<◌, ◌≤◌, IfOk, Ok, Err, Result, arith}
+use Rattle.std.proofs.Common.{ℕ, ◌^◌, ◌<◌, IfOk, Ok, Err, Result, arith}
 use Rattle.fault.specs.declared.Fault.{Fault}
 use Rattle.clock.specs.Meaning.{Meaning, Lawful}
 use Rattle.clock.specs.Calls.{Taken}

@@ -1,4 +1,4 @@
-use Rattle.std.proofs.Common.{◌≡◌, ℕ, ◌^◌, ◌<◌, true, Option, sym, ap, ◌∙◌}
+use Rattle.std.proofs.Common.{◌≡◌, ℕ, ◌^◌, ◌<◌, true, Option, ap, ◌∙◌}
 use Rattle.jobs.specs.declared.Firing.{Firing}
 use Rattle.jobs.specs.declared.Slot.{Slot}
 use Rattle.slots.specs.Slots.{fired, capped, coming}
