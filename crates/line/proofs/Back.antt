@@ -1,17 +1,14 @@
 -- An accepted line has the words of what it is read as, which keeps the limits. Assumes nothing.
-use Rattle.std.proofs.Common.{◌≡◌, ℕ, ◌+◌, ◌-◌, ◌^◌, ◌<◌, ◌≤◌, Bool, true, false, cond, ◌&&◌, ltb, leb, List, [], ◌∷◌, length, get_or, Some, None, Ok, Err, codes, decimal, Option, Result, sym, refl, ap, ◌∙◌, subst, arith}
-use Rattle.std.specs.Str.{bytes_eq}
+use Rattle.std.proofs.Common.{◌≡◌, ℕ, ◌-◌, ◌^◌, ◌<◌, ◌≤◌, Bool, true, false, cond, ◌&&◌, ltb, leb, List, [], ◌∷◌, get_or, Some, None, Ok, codes, decimal, Option, Result, sym, refl, ap, ◌∙◌, subst, arith}
 use Rattle.std.proofs.lemmas.Slice.Eq.{bytes_eq-Decides}
-use Rattle.std.proofs.lemmas.Bool.{and_from, and_parts, leb-true, ltb-false, le-leb, lt-ltb, cases_Bool, cond-true, cond-false}
+use Rattle.std.proofs.lemmas.Bool.{and_from, and_parts, leb-true, ltb-false, le-leb, lt-ltb}
 use Rattle.fault.specs.declared.Fault.{Fault}
 use Rattle.words.specs.Number.{number_of}
-use Rattle.slots.specs.Limits.{kind_fits, action_fits, job_fits, period_fits}
+use Rattle.slots.specs.Limits.{kind_fits, action_fits, period_fits}
 use Rattle.jobs.specs.declared.Kind.{Kind}
-use Rattle.jobs.specs.declared.Kind.TheVariants.{Once, Every, Burst}
 use Rattle.jobs.specs.declared.Action.{Action}
-use Rattle.jobs.specs.declared.Action.TheVariants.{Read, Mark}
 use Rattle.line.specs.declared.line.Line.{Line}
-use Rattle.line.specs.Line.{◌>>=◌, Placed, Rest, fault_at, or_wrong, number_at, limited, slot_at, first_of, next, number, delay, period, once, every, burst, is_word, timing, reads, action, none_of, ending, line_of}
+use Rattle.line.specs.Line.{Placed, Rest, or_wrong, number_at, limited, slot_at, first_of, next, number, delay, period, once, every, burst, is_word, timing, reads, action, none_of, ending, line_of}
 use Rattle.line.specs.Text.{action_words, kind_words, line_words, Lawful}
 use Rattle.line.proofs.Binds.{err_not_ok, same_ok, bind_back, pass_back, stop_back}
 use Rattle.line.proofs.Numbers.{number_back}

@@ -1,5 +1,5 @@
 -- Steps of judging, forwards and backwards. Assumes nothing.
-use Rattle.std.proofs.Common.{◌≡◌, ℕ, Bool, true, false, cond, Ok, Err, Result, sym, refl, ap, ◌∙◌, arith}
+use Rattle.std.proofs.Common.{◌≡◌, ℕ, Bool, true, false, cond, Ok, Err, Result, refl, ap, arith}
 use Rattle.line.specs.Line.{◌>>=◌}
 
 pub err_not_ok : {A E : Type 0} {e : E} {a : A} → Err e ≡ Ok a → ⊥

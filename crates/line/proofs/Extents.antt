@@ -1,5 +1,5 @@
 -- The words of a text take up one byte more than it has. Assumes nothing.
-use Rattle.std.proofs.Common.{◌≡◌, ℕ, suc, ◌+◌, Bool, true, false, cond, eqb, List, [], ◌∷◌, length, sym, refl, ap, ◌∙◌, arith}
+use Rattle.std.proofs.Common.{◌≡◌, ℕ, suc, ◌+◌, Bool, true, false, cond, eqb, List, [], ◌∷◌, length, refl, ◌∙◌, arith}
 use Rattle.words.specs.Words.{onto, words_of}
 use Rattle.line.specs.Extent.{extent}
 use Rattle.words.proofs.Cuts.{words_cut, cut_some}

@@ -1,9 +1,9 @@
 -- The words of a line that keeps the limits are read as that line. Assumes nothing.
-use Rattle.std.proofs.Common.{◌≡◌, ℕ, ◌+◌, ◌-◌, ◌^◌, ◌<◌, ◌≤◌, Bool, true, false, cond, ◌&&◌, ltb, leb, List, [], ◌∷◌, length, get_or, Ok, Err, codes, decimal, Result, sym, refl, ap, ◌∙◌, arith}
+use Rattle.std.proofs.Common.{◌≡◌, ℕ, ◌+◌, ◌-◌, ◌^◌, ◌<◌, ◌≤◌, Bool, true, ◌&&◌, ltb, leb, List, [], ◌∷◌, length, Ok, codes, decimal, Result, refl, ap, ◌∙◌, arith}
 use Rattle.std.proofs.lemmas.Bool.{and_from, and_parts, leb-true, ltb-true, le-leb, le-ltb, cond-true, cond-false}
 use Rattle.fault.specs.declared.Fault.{Fault}
 use Rattle.words.specs.Number.{number_of}
-use Rattle.slots.specs.Limits.{kind_fits, action_fits, job_fits, period_fits}
+use Rattle.slots.specs.Limits.{kind_fits, action_fits, period_fits}
 use Rattle.jobs.specs.declared.Kind.{Kind}
 use Rattle.jobs.specs.declared.Kind.TheVariants.{Once, Every, Burst}
 use Rattle.jobs.specs.declared.Action.{Action}
@@ -12,7 +12,6 @@ use Rattle.line.specs.declared.line.Line.{Line}
 use Rattle.line.specs.Line.{◌>>=◌, Placed, Rest, or_wrong, number_at, limited, slot_at, first_of, next, number, delay, period, once, every, burst, timing, reads, action, ending, line_of}
 use Rattle.line.specs.Text.{action_words, kind_words, line_words, Lawful}
 use Rattle.line.proofs.Binds.{bind_ok}
-use Rattle.line.proofs.Letters.{Small, kind_small, action_small}
 use Rattle.line.proofs.Numbers.{number_decimal}
 
 -- the first word, and what is left after it

@@ -1,6 +1,6 @@
 -- A cursor as what is left of a line, and a word as the definitions see it.
 -- Assumes nothing.
-use Rattle.std.specs.Prelude.{List, Ok, Err, Result}
+use Rattle.std.specs.Prelude.{Ok, Err, Result}
 use Rattle.fault.specs.declared.Fault.{Fault}
 use Rattle.words.specs.Words.{remaining}
 use Rattle.line.specs.declared.word.Word.{Word}

@@ -1,7 +1,7 @@
 -- A clock whose reading is set forward keeps the laws of a clock, and moves as a clock moves. Assumes nothing.
-use Rattle.std.specs.Prelude.{◌≡◌, ℕ, ◌+◌, ◌-◌, ◌%◌, ◌^◌, ◌<◌, ◌≤◌, Bool, true, false, cond, ◌&&◌, ◌⊎◌, ◌∷◌, Some, None, Ok, Err, Option, Result, nat_lt, refl}
-use Rattle.std.proofs.Common.{sym, ap, ◌∙◌, inl, inr, ⊎_elim, mod-lt, arith, pow_pos, pow_mono}
-use Rattle.std.proofs.Math.Nat.{mod-add-mod, add-mod-mod, add-mod_right, mod-mod}
+use Rattle.std.specs.Prelude.{◌≡◌, ℕ, ◌+◌, ◌-◌, ◌%◌, ◌^◌, ◌<◌, ◌≤◌, Bool, true, false, cond, ◌&&◌, ◌∷◌, Some, Ok, Err, Result, nat_lt, refl}
+use Rattle.std.proofs.Common.{sym, ap, ◌∙◌, mod-lt, arith, pow_pos, pow_mono}
+use Rattle.std.proofs.Math.Nat.{mod-add-mod, add-mod-mod, add-mod_right}
 use Rattle.std.proofs.lemmas.Bool.{lt-ltb}
 use Rattle.fault.specs.declared.Fault.{Fault}
 use Rattle.fault.specs.Table.{alarm_limits}
@@ -12,7 +12,7 @@ use Rattle.clock.specs.Meaning.{Meaning, Lawful, advanced}
 use Rattle.clock.specs.Appointment.{Sound, after_take, placed, set_row, setting, told, left_by, claims}
 use Rattle.clock.specs.Making.{seen}
 use Rattle.offset.specs.Offset.{offset_meaning, shifted}
-use Rattle.clock.specs.Calls.{Taken, Accepted, Stray, SetTo}
+use Rattle.clock.specs.Calls.{Taken, SetTo}
 use Rattle.clock.proofs.Turning.{same_place, there_and_back}
 
 -- readings of a turn of n, set forward by k; the reference is turned back

@@ -1,6 +1,6 @@
 -- A clock at a rate keeps the laws of a clock, and moves as a clock moves. Assumes nothing.
-use Rattle.std.specs.Prelude.{◌≡◌, ℕ, zero, suc, ◌+◌, ◌-◌, ◌*◌, ◌/◌, ◌%◌, ◌^◌, ◌<◌, ◌≤◌, min, Bool, true, false, ◌⊎◌, ◌∷◌, nat_le, refl}
-use Rattle.std.proofs.Common.{sym, ap, ◌∙◌, inl, inr, ⊎_elim, mod-lt, mul-add, mul_comm, add-suc, add-zero, mul-zero, mul-le-mul_left, div-mul-le_self, add-one, arith, pow_pos, pow_mono}
+use Rattle.std.specs.Prelude.{◌≡◌, ℕ, zero, suc, ◌+◌, ◌-◌, ◌*◌, ◌/◌, ◌%◌, ◌^◌, ◌<◌, ◌≤◌, ◌∷◌, nat_le}
+use Rattle.std.proofs.Common.{sym, ap, ◌∙◌, ⊎_elim, mod-lt, mul-add, mul_comm, add-suc, add-zero, mul-zero, mul-le-mul_left, div-mul-le_self, add-one, arith, pow_pos}
 use Rattle.std.proofs.Math.Path.{fun_ext}
 use Rattle.std.proofs.Math.Nat.{mod-add-mod, mul-add-div, div-eq_of_lt, div-add-mod, div-le_of_le-mul, add-div_right}
 use Rattle.std.proofs.lemmas.Nat.{le-div, mul-le}

@@ -3,4 +3,4 @@
 
 mod sorting;
 
-pub use sorting::{drain, in_order};
+pub use sorting::in_order;

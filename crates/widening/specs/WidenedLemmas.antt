@@ -1,11 +1,11 @@
 -- A widened clock keeps the laws of a clock, and moves as a clock moves. Assumes nothing.
-use Rattle.std.specs.Prelude.{◌≡◌, ℕ, ◌+◌, ◌-◌, ◌*◌, ◌/◌, ◌%◌, ◌^◌, ◌<◌, ◌≤◌, min, ◌∷◌, nat_le, refl}
-use Rattle.std.proofs.Common.{sym, ap, ◌∙◌, ⊎_elim, mod-lt, mod-eq_of_lt, div-add-mod', add-mul, mul_assoc, mul_comm, add_comm, add_assoc, arith, pow_pos, pow_mono, pow-add}
+use Rattle.std.specs.Prelude.{◌≡◌, ℕ, ◌+◌, ◌-◌, ◌*◌, ◌/◌, ◌%◌, ◌^◌, ◌<◌, ◌≤◌, ◌∷◌, nat_le}
+use Rattle.std.proofs.Common.{sym, ap, ◌∙◌, ⊎_elim, mod-lt, div-add-mod', add-mul, mul_assoc, mul_comm, add_assoc, arith, pow_pos, pow_mono, pow-add}
 use Rattle.std.proofs.Math.Nat.{mod-add-mod, mul-add-mod_self_left}
 use Rattle.std.proofs.lemmas.Nat.{shr_high, mod_low, mod-pow-add}
 use Rattle.std.proofs.lemmas.Bool.{cases_lt, le-leb, lt-leb, cond-true, cond-false}
 use Rattle.clock.specs.Wrap.{plus}
-use Rattle.clock.specs.Meaning.{Meaning, Counts, Lawful, advanced}
+use Rattle.clock.specs.Meaning.{Meaning, Lawful, advanced}
 use Rattle.widening.specs.Widening.{widened_width, widening_meaning, carry_after}
 use Rattle.clock.specs.declared.appointment.Appointment.{Appointment}
 use Rattle.clock.specs.Appointment.{after_take}

@@ -144,7 +144,8 @@ impl<'a> Cursor<'a> {
 
     // The whole line, for one of the slots that are free.
     pub(crate) fn line(mut self, free: &[bool; 32]) -> Result<Line, Fault>
-        ensures { result ≡ line_of free.now (rest_of self.entry) }
+        ensures answer { result ≡ line_of free.now (rest_of self.entry) }
+        ensures within { IfOk result (λ l. l.slot < 32) }
     {
         let slot = self.word()?.slot(free)?;
         let (kind, delay) = self.timing()?;

@@ -1,5 +1,5 @@
 // What a word may stand for.
-ghost use Rattle.std.specs.Prelude.{◌≡◌, ◌≤◌, IfOk};
+ghost use Rattle.std.specs.Prelude.{◌≡◌, ◌<◌, ◌≤◌, IfOk};
 ghost use Rattle.line.specs.Cursor.{seen};
 ghost use Rattle.line.specs.Line.{fault_at, is_word, number_at, limited, slot_at};
 
@@ -45,7 +45,8 @@ impl Word<'_> {
 
     // The number of a slot that is free.
     pub(crate) fn slot(self, free: &[bool; 32]) -> Result<u8, Fault>
-        ensures { result ≡ slot_at free.now (seen self.entry) }
+        ensures answer { result ≡ slot_at free.now (seen self.entry) }
+        ensures within { IfOk result (λ n. n < 32) }
     {
         let slot = self.number()?;
         if slot > 31 {

@@ -14,14 +14,14 @@ module _ (width low carry reading above turn : ℕ) (wider : low ≤ width) (nar
   all : carry % above * turn + reading ≡ (carry * 2 ^ low + reading) % 2 ^ width
   all = ap (λ n. n + reading) high ∙ joined_is width low carry reading wider fits
 
-pub overflow-mul-result : goal.overflow-mul-result
-overflow-mul-result c =
+pub overflow_mul-result : goal.overflow_mul-result
+overflow_mul-result c =
     let fits = all_fits c.args.width.bits c.args.low.bits c.args.carry c.args.reading _ _
     c.requires.0 c.args.width.high c.requires.1 c.turn.ensures c.turn-2.ensures in
     record { fits = omega arith }
 
-pub overflow-add-result : goal.overflow-add-result
-overflow-add-result c =
+pub overflow_add-result : goal.overflow_add-result
+overflow_add-result c =
     record {
       fits = all_fits c.args.width.bits c.args.low.bits c.args.carry c.args.reading _ _
           c.requires.0 c.args.width.high c.requires.1 c.turn.ensures c.turn-2.ensures;

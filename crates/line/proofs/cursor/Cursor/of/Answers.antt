@@ -3,5 +3,5 @@ use Rattle.line.specs.Extent.{extent}
 use Rattle.line.proofs.Extents.{extent_words}
 use Rattle.line.proofs.cursor.Cursor.of.Goals as goal
 
-pub invariant-of-result : goal.invariant-of-result
-invariant-of-result c = (omega (arith, ap extent c.of.ensures, extent_words c.args.text.now), (c.requires, tt))
+pub invariant_of-result : goal.invariant_of-result
+invariant_of-result c = record { within = omega (arith, ap extent c.of.ensures, extent_words c.args.text.now); bounded = c.requires }

@@ -1,4 +1,4 @@
-use Rattle.std.proofs.Common.{◌≡◌, ◌%◌, ◌^◌, ap, ◌∙◌, arith}
+use Rattle.std.proofs.Common.{◌≡◌, ◌%◌, ◌^◌, ap, ◌∙◌}
 use Rattle.clock.specs.Wrap.{minus}
 use Rattle.offset.specs.ShiftedLemmas.{offset_set}
 use Rattle.offset.proofs.offset.Offset.place.Goals as goal

@@ -1,4 +1,4 @@
-use Rattle.std.proofs.Common.{◌≡◌, ℕ, ◌^◌, ◌<◌, sym, ap, ◌∙◌, subst, arith}
+use Rattle.std.proofs.Common.{◌≡◌, ℕ, ◌^◌, ◌<◌, sym, ap, subst, arith}
 use Rattle.clock.specs.Meaning.{Meaning, Lawful}
 use Rattle.rate.specs.declared.ratio.Ratio.{Ratio}
 use Rattle.clock.specs.Calls.{Accepted}
@@ -14,18 +14,18 @@ pub follow-gained-requires : goal.follow-gained-requires
 follow-gained-requires g c =
     let below = c.args.self.now.below in
     let law = g.met.A.Clock.lawful below in
-    let taken = c.in-ok-ticks.ensures in
-    few (g.A.Clock.meaning below) taken.ticks c.in-ok-ticks.ticks law taken.within taken.gain
+    let taken = c.in_ok-ticks.ensures in
+    few (g.A.Clock.meaning below) taken.ticks c.in_ok-ticks.ticks law taken.within taken.gain
 
 pub returns : goal.returns
 returns g c =
     let s = c.args.self.now in
     let after = c.follow-gained.new.self in
     let m = g.A.Clock.meaning s.below in
-    let ticks = c.in-ok-ticks.ticks in
+    let ticks = c.in_ok-ticks.ticks in
     let taken : Accepted m (g.A.Alarm.appointment s.below) c.args.sample ticks (g.A.Clock.meaning after.below) (g.A.Alarm.appointment after.below) =
     subst (λ b. Accepted m (g.A.Alarm.appointment s.below) c.args.sample ticks (g.A.Clock.meaning b) (g.A.Alarm.appointment b))
-    (sym c.follow-gained.ensures.below) c.in-ok-ticks.ensures in
+    (sym c.follow-gained.ensures.below) c.in_ok-ticks.ensures in
     rate_accepted s.ratio.gains s.ratio.ticks s.remainder s.ratio.some s.ratio.slow s.small
     m (g.met.A.Clock.lawful s.below) s.count (g.A.Clock.meaning after.below) (g.A.Alarm.appointment s.below) (g.A.Alarm.appointment after.below)
     after.ratio.gains after.ratio.ticks after.remainder after.count s.kept.appointment after.kept.appointment

@@ -13,12 +13,12 @@ sum_fits m d low gained law is near gain =
     let top : 2 ^ m.width ≤ 2 ^ 48 = pow_mono law.width_high in
     omega (arith, law.reading_fits)
 
-pub overflow-add-wrapped : goal.overflow-add-wrapped
-overflow-add-wrapped g c =
+pub overflow_add-wrapped : goal.overflow_add-wrapped
+overflow_add-wrapped g c =
     let below = c.args.self.now.below in
-    let taken = c.in-ok-gained.ensures in
+    let taken = c.in_ok-gained.ensures in
     record {
-      fits = sum_fits (g.A.Clock.meaning below) taken.ticks c.reading-low.result c.in-ok-gained.gained
+      fits = sum_fits (g.A.Clock.meaning below) taken.ticks c.reading-low.result c.in_ok-gained.gained
           (g.met.A.Clock.lawful below) c.reading-low.ensures taken.within taken.gain;
     }
 
@@ -27,10 +27,10 @@ returns g c =
     let s = c.args.self.now in
     let after = c.follow.new.self in
     let m = g.A.Clock.meaning s.below in
-    let gained = c.in-ok-gained.gained in
+    let gained = c.in_ok-gained.gained in
     let taken : Accepted m (g.A.Alarm.appointment s.below) c.args.sample gained (g.A.Clock.meaning after.below) (g.A.Alarm.appointment after.below) =
     subst (λ b. Accepted m (g.A.Alarm.appointment s.below) c.args.sample gained (g.A.Clock.meaning b) (g.A.Alarm.appointment b))
-    (sym c.follow.ensures.below) c.in-ok-gained.ensures in
+    (sym c.follow.ensures.below) c.in_ok-gained.ensures in
     let turn : c.turn-turn.result ≡ 2 ^ m.width = c.turn-turn.ensures ∙ ap (λ n. 2 ^ n) c.of.ensures in
     let carried : after.carry ≡ carry_after s.bits.count s.carry (leb (2 ^ m.width) (m.reading + gained)) =
     c.follow.ensures.carry ∙ λ i. carry_after s.bits.count s.carry (leb (turn i) (c.reading-low.ensures i + gained)) in
