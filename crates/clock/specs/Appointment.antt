@@ -27,6 +27,15 @@ left_in (Due point) = 1
 abbrev pub Sound : ℕ → Appointment → Type 0
 Sound w a = (1 ≤ left_in a) × (held a < 2 ^ w)
 
+-- the appointment and the numbers of an event are those of a clock of the event's width
+abbrev pub Possible : Appointment → Event → Type 0
+Possible a (Take gain) = (gain.width.bits ≤ 48) × (gain.from < 2 ^ gain.width.bits) × Sound gain.width.bits a
+Possible a (Set request) =
+    (request.width.bits ≤ 48) × (request.reading < 2 ^ request.width.bits) × (request.reference < 2 ^ request.width.bits)
+    × (request.delay < 2 ^ request.width.bits)
+Possible a Stop = Unit {0}
+Possible a Claim = Unit {0}
+
 -- a take that gains ticks from a reading on: the appointment falls due where all that was left has passed
 abbrev pub after_take : ℕ → ℕ → ℕ → Appointment → Appointment
 after_take w from gained Idle = Idle

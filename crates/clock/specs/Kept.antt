@@ -1,4 +1,4 @@
--- The appointment that a device or a layer keeps, read at the width of its clock.
+-- The appointment that a layer keeps, read at the width of its clock.
 -- Assumes nothing.
 use Rattle.std.specs.Prelude.{ℕ, ◌^◌, cond, nat_lt}
 use Rattle.clock.specs.declared.appointment.Appointment.{Appointment}

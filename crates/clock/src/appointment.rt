@@ -1,7 +1,8 @@
 // The one appointment of an alarm, and the table of what each event makes of it.
 ghost use Rattle.std.specs.Prelude.{◌≡◌};
-ghost use Rattle.clock.specs.Appointment.{Sound, after_take, placed, setting, told, left_by, stops, claims, after_claim, table};
+ghost use Rattle.clock.specs.Appointment.{Sound, Possible, after_take, placed, setting, told, left_by, stops, claims, after_claim, table};
 ghost use Rattle.clock.specs.declared.appointment.Appointment.TheVariants.{Idle, Standing};
+ghost use Rattle.clock.specs.declared.appointment.Event.TheVariants.{Take, Set};
 
 use crate::width::Width;
 use fault::{Cause, Fault};
@@ -74,7 +75,8 @@ impl Appointment {
 
     // A standing appointment falls due where all that was left has passed.
     fn run_down(left: u64, gain: Gain) -> Appointment
-        ensures { result ≡ after_take gain.width.bits gain.from gain.gained (Standing left) }
+        ensures is { result ≡ after_take gain.width.bits gain.from gain.gained (Standing left) }
+        ensures sound { Possible (Standing left) (Take gain) → Sound gain.width.bits result }
     {
         if gain.gained < left {
             Self::Standing(left - gain.gained)
@@ -85,7 +87,8 @@ impl Appointment {
 
     // A new appointment: it stands if the delay is longer than the reference is old.
     fn placed(request: Request) -> Appointment
-        ensures { result ≡ placed request.width.bits request.reading request.reference request.delay }
+        ensures is { result ≡ placed request.width.bits request.reading request.reference request.delay }
+        ensures sound { Possible Idle (Set request) → Sound request.width.bits result }
     {
         let age = request.width.difference(request.reading, request.reference);
         if age < request.delay {
@@ -96,7 +99,7 @@ impl Appointment {
     }
 
     // The clock gained ticks from this reading on.
-    pub(crate) fn take(&mut self, width: Width, from: u64, gained: u64)
+    pub fn take(&mut self, width: Width, from: u64, gained: u64)
         requires { Sound width.bits self.old }
         ensures after { self.new ≡ after_take width.bits from gained self.old }
         ensures sound { Sound width.bits self.new }
@@ -111,7 +114,7 @@ impl Appointment {
     }
 
     // Places an appointment where there is none: the two numbers are judged first.
-    pub(crate) fn set(
+    pub fn set(
         &mut self,
         width: Width,
         reading: u64,
@@ -142,7 +145,7 @@ impl Appointment {
     }
 
     // Gives the appointment up; answers whether there was one.
-    pub(crate) fn stop(&mut self) -> bool
+    pub fn stop(&mut self) -> bool
         ensures answer { result ≡ stops self.old }
         ensures after { self.new ≡ Idle }
     {
@@ -155,7 +158,7 @@ impl Appointment {
     }
 
     // Answers the point of an appointment that is due, and ends it.
-    pub(crate) fn claim(&mut self) -> Option<u64>
+    pub fn claim(&mut self) -> Option<u64>
         ensures answer { result ≡ claims self.old }
         ensures after { self.new ≡ after_claim self.old }
     {

@@ -1,7 +1,7 @@
-// The appointment that a device or a layer keeps, with the calls that its alarm passes on.
+// The appointment of a layer whose width depends on the alarm below.
 //
 // The type of a layer cannot say how wide the alarm below is, so the width comes with each call, and an appointment that
-// would not fit it counts as none. No alarm keeps such a one: what is kept comes from calls at the same width.
+// would not fit it counts as none. A layer never keeps such a one: what is kept comes from calls at the same width.
 ghost use Rattle.std.specs.Prelude.{◌≡◌, ◌^◌, ◌<◌, ◌≤◌};
 ghost use Rattle.clock.specs.Appointment.{Sound, held, left_in, after_take, setting, told, left_by, stops, claims, after_claim};
 ghost use Rattle.clock.specs.Kept.{within};

@@ -1,16 +1,15 @@
 // A counter that counts from its reload down to 0 and starts again at the reload.
 ghost use Rattle.std.specs.Prelude.{◌≡◌, ◌^◌, ◌<◌, ◌≤◌};
+ghost use Rattle.clock.specs.Appointment.{Sound};
 ghost use Rattle.clock.specs.Calls.{Accepted};
 ghost use Rattle.down.specs.Down.{down_meaning, down_made, fallen};
 ghost use Rattle.clock.specs.Hold.{wait_for};
-ghost use Rattle.clock.specs.Kept.{within};
 ghost use Rattle.clock.specs.Making.{seen};
 ghost use Rattle.down.specs.DownCounters.{down_lawful};
 ghost use Rattle.std.proofs.Common.{rules, arith};
 
 use clock::alarm::{Alarm, Clock};
 use clock::appointment::Appointment;
-use clock::kept::Kept;
 use clock::width::Width;
 use fault::{Cause, Fault};
 
@@ -28,17 +27,18 @@ pub struct DownCounter {
     last: u32,
     reading: u64,
     tag: u8,
-    kept: Kept,
+    appointment: Appointment,
     ghost low: { 1 ≤ reload },
     ghost high: { reload < 2 ^ 24 },
     ghost within: { last ≤ reload },
     ghost fits: { reading < 2 ^ 32 },
+    ghost sound: { Sound 32 appointment },
 }
 
 impl DownCounter {
     // Reload from 1 to 2^24 - 1, and a first sample that a counter with that reload can show.
     pub fn new(reload: u32, first: Count, tag: u8) -> Result<DownCounter, Fault>
-        ensures { seen (λ c. (down_meaning c.reload c.last c.reading c.tag, within 32 c.kept.appointment)) result ≡ down_made reload first.0 tag }
+        ensures { seen (λ c. (down_meaning c.reload c.last c.reading c.tag, c.appointment)) result ≡ down_made reload first.0 tag }
     {
         if reload < 1 || reload >= 1 << 24 {
             return Err(Fault::in_device(Cause::BadSetting, tag));
@@ -51,7 +51,7 @@ impl DownCounter {
             last: first.0,
             reading: 0,
             tag,
-            kept: Kept::new(),
+            appointment: Appointment::Idle,
         })
     }
 
@@ -71,9 +71,9 @@ impl DownCounter {
     // Moves on to a count that the counter can show, this many ticks after the last.
     fn accept(&mut self, sample: Count, gained: u64)
         requires { (sample.0 ≤ self.old.reload) × (gained ≡ fallen self.old.reload self.old.last sample.0) }
-        ensures { Accepted (down_meaning self.old.reload self.old.last self.old.reading self.old.tag) (within 32 self.old.kept.appointment) sample gained (down_meaning self.new.reload self.new.last self.new.reading self.new.tag) (within 32 self.new.kept.appointment) }
+        ensures { Accepted (down_meaning self.old.reload self.old.last self.old.reading self.old.tag) self.old.appointment sample gained (down_meaning self.new.reload self.new.last self.new.reading self.new.tag) self.new.appointment }
     {
-        self.kept.take(WIDTH, self.reading, gained);
+        self.appointment.take(WIDTH, self.reading, gained);
         self.reading = WIDTH.sum(self.reading, gained);
         self.last = sample.0;
     }
@@ -107,7 +107,7 @@ impl Clock for DownCounter {
 }
 
 impl Alarm for DownCounter {
-    ghost appointment = { λ c. within 32 c.kept.appointment };
+    ghost appointment = { λ c. c.appointment };
 
     ghost sound = { first_of (Prim.search rules, Prim.grind (arith, Self.row.coded.inj)) };
 
@@ -121,19 +121,19 @@ impl Alarm for DownCounter {
     }
 
     fn set(&mut self, reference: u64, delay: u64) -> Result<(), Fault> {
-        self.kept.set(WIDTH, self.reading, reference, delay)
+        self.appointment.set(WIDTH, self.reading, reference, delay)
     }
 
     fn stop(&mut self) -> bool {
-        self.kept.stop(WIDTH)
+        self.appointment.stop()
     }
 
     fn claim(&mut self) -> Option<u64> {
-        self.kept.claim(WIDTH)
+        self.appointment.claim()
     }
 
     fn hold(&mut self) -> u64 {
-        match self.kept.at(WIDTH) {
+        match self.appointment {
             Appointment::Idle => u64::from(self.reload),
             Appointment::Standing(left) => self.wait(left),
             Appointment::Due(_) => 0,

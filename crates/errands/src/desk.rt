@@ -1,11 +1,11 @@
 // A desk that a ticket is kept on, and settled from.
-ghost use Rattle.std.specs.Prelude.{◌≡◌, true, false};
+ghost use Rattle.std.specs.Prelude.{◌≡◌, true, false, IfOk};
 ghost use Rattle.logger.specs.State.{view};
-ghost use Rattle.errands.specs.Desk.{holds, SettledFrom};
+ghost use Rattle.errands.specs.Desk.{holds, SettledFrom, PutOffFrom};
 
 use clock::alarm::Alarm;
 use fault::Fault;
-use jobs::Outcome;
+use jobs::{Action, Outcome};
 use logger::logger::Logger;
 use logger::ticket::Ticket;
 use std::mem;
@@ -50,4 +50,21 @@ pub(crate) fn settle_from<A: Alarm>(
 {
     let ticket = mem::replace(desk, Desk::Empty).into_ticket();
     logger.settle(ticket)
+}
+
+// Puts an errand off: its ticket is settled, and another errand is set up in the slot, due a delay from now.
+pub(crate) fn put_off<A: Alarm>(
+    logger: &mut Logger<A>,
+    desk: &mut Desk,
+    slot: usize,
+    delay: u64,
+) -> Result<Ticket, Fault>
+    requires { holds desk.old ≡ true }
+    ensures put_off { PutOffFrom (view A.Clock.meaning logger.old) desk.old slot delay result (view A.Clock.meaning logger.new) }
+    ensures ticket { IfOk result (λ t. t.slot ≡ slot) }
+    ensures desk { desk.new ≡ Desk.Empty }
+{
+    settle_from(logger, desk)?;
+    let moment = logger.moment();
+    logger.errand(slot, moment, delay, Action::Mark)
 }

@@ -4,10 +4,9 @@
 ghost use Rattle.logger.specs.State.{view};
 ghost use Rattle.errands.specs.Errands.{PutOff};
 
-use crate::desk::{Desk, settle_from};
+use crate::desk::Desk;
 use clock::alarm::Alarm;
 use fault::Fault;
-use jobs::Action;
 use logger::logger::Logger;
 use logger::ticket::Ticket;
 
@@ -22,8 +21,6 @@ pub fn put_off<A: Alarm>(
     ensures { PutOff (view A.Clock.meaning logger.old) ticket delay result (view A.Clock.meaning logger.new) }
 {
     let slot = ticket.slot();
-    let mut desk = Desk::Holds(ticket);
-    settle_from(logger, &mut desk)?;
-    let moment = logger.moment();
-    logger.errand(slot, moment, delay, Action::Mark)
+    let mut kept = Desk::Holds(ticket);
+    desk::put_off(logger, &mut kept, slot, delay)
 }

@@ -1,5 +1,4 @@
 // The worked run, and tickets in use.
-use clock::alarm::Alarm;
 use fault::Fault;
 use jobs::{Action, Firing, Job, Kind, Outcome};
 use logger::logger::Logger;

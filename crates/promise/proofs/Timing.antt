@@ -15,12 +15,12 @@ use Rattle.table.proofs.Nearest.{Answer, answered}
 use Rattle.promise.specs.Runs.{Event, serve, next, hold}
 use Rattle.promise.specs.Words.{At, AsHeld, SetUpAt, ReportedAt}
 use Rattle.promise.specs.Promise.{Timely}
-use Rattle.promise.proofs.Basics.{none_some, some_same, true_false, there, within}
+use Rattle.promise.proofs.Basics.{none_some, some_same, true_false, within}
 use Rattle.promise.proofs.Firings.{comes}
 use Rattle.promise.proofs.Changes.{same, moves, starts, ended, fires, Rests}
 use Rattle.promise.proofs.Frames.{framed}
 use Rattle.promise.proofs.Courses.{Course}
-use Rattle.promise.proofs.Standing.{s_at, slot_at, ChangeAt, rests, stood, stands, not_reached, moment_before}
+use Rattle.promise.proofs.Standing.{s_at, slot_at, ChangeAt, rests, stands, not_reached, moment_before}
 use Rattle.promise.proofs.Completeness.{base, told}
 use Rattle.promise.proofs.Measuring.{counts}
 

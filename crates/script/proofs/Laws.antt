@@ -1,22 +1,20 @@
 -- A script is accepted exactly when it is the text of lawful lines, which it is read as. Assumes nothing.
-use Rattle.std.proofs.Common.{◌≡◌, ℕ, zero, suc, ◌+◌, ◌-◌, ◌^◌, ◌<◌, ◌≤◌, Bool, true, false, cond, ◌&&◌, ltb, leb, List, [], ◌∷◌, ◌++◌, length, get_or, set, Ok, Err, count_by, Result, sym, refl, ap, ◌∙◌, subst, arith}
+use Rattle.std.proofs.Common.{◌≡◌, ℕ, zero, suc, ◌+◌, ◌^◌, ◌<◌, Bool, true, false, cond, ◌&&◌, ltb, leb, List, [], ◌∷◌, ◌++◌, length, get_or, set, Ok, count_by, sym, refl, ap, ◌∙◌, subst, arith}
 use Rattle.std.specs.List.{AllByRecursion as All}
 use Rattle.std.proofs.lemmas.List.{get_or-set_other}
 use Rattle.std.proofs.lemmas.List.Sums.{sum_by-set}
 use Rattle.std.proofs.lemmas.Bool.{and_parts, leb-true, ltb-true, true≢false}
-use Rattle.fault.specs.declared.Fault.{Fault}
 use Rattle.words.specs.Cuts.{cut, joined_by}
-use Rattle.words.specs.Words.{words_of}
-use Rattle.slots.specs.Limits.{kind_fits, action_fits, job_fits, period_fits}
+use Rattle.slots.specs.Limits.{kind_fits, action_fits, period_fits}
 use Rattle.jobs.specs.declared.Kind.{Kind}
 use Rattle.jobs.specs.declared.Kind.TheVariants.{Once, Every, Burst}
 use Rattle.jobs.specs.declared.Action.{Action}
 use Rattle.jobs.specs.declared.Action.TheVariants.{Read, Mark}
 use Rattle.line.specs.declared.line.Line.{Line}
-use Rattle.line.specs.Line.{◌>>=◌, line_of, whole_line}
+use Rattle.line.specs.Line.{line_of, whole_line}
 use Rattle.script.specs.Script.{last_piece, script_from, script_of}
-use Rattle.line.specs.Text.{line_text, line_words, Lawful}
-use Rattle.script.specs.Text.{script_text, Different, Writes, Law}
+use Rattle.line.specs.Text.{line_text, Lawful}
+use Rattle.script.specs.Text.{script_text, Different, Law}
 use Rattle.line.proofs.Back.{lined}
 use Rattle.line.proofs.Binds.{err_not_ok, same_ok, bind_ok, bind_back}
 use Rattle.words.proofs.Cuts.{cut_some, cut_front, joined_cut}

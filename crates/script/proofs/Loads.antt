@@ -1,15 +1,14 @@
 -- Setting up one line of a script that is being loaded. Assumes nothing.
-use Rattle.std.proofs.Common.{◌≡◌, ℕ, zero, suc, ◌+◌, ◌<◌, ◌≤◌, Bool, true, false, cond, not, ltb, List, [], ◌∷◌, map, length, get_or, set, Ok, Err, Result, sym, refl, ap, ◌∙◌, subst, arith}
+use Rattle.std.proofs.Common.{◌≡◌, ℕ, zero, suc, ◌+◌, ◌<◌, Bool, true, false, List, [], ◌∷◌, get_or, set, Ok, Result, sym, refl, ap, ◌∙◌, subst, arith}
 use Rattle.std.specs.List.{AllByRecursion as All}
 use Rattle.std.proofs.lemmas.List.{map-set}
-use Rattle.std.proofs.lemmas.Bool.{cond-true, cond-false, le-ltb, true≢false, not-true}
+use Rattle.std.proofs.lemmas.Bool.{cond-true, cond-false, le-ltb, not-true}
 use Rattle.fault.specs.declared.Fault.{Fault}
-use Rattle.slots.specs.Limits.{job_fits}
 use Rattle.slots.specs.Slots.{taken, set_up_slot}
 use Rattle.logger.specs.State.{Log, slot_of, with_slot}
 use Rattle.logger.specs.Calls.{after_set_up, SetUp}
 use Rattle.jobs.specs.declared.Slot.{Slot}
-use Rattle.jobs.specs.declared.Slot.TheVariants.{Free, Standing, Waiting}
+use Rattle.jobs.specs.declared.Slot.TheVariants.{Free, Standing}
 use Rattle.line.specs.declared.line.Line.{Line}
 use Rattle.script.specs.declared.lines.Script.{Script}
 use Rattle.script.specs.Lines.{lines_of, read_as}

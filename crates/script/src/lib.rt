@@ -5,6 +5,7 @@ mod lines;
 mod loading;
 mod reading;
 
+pub use line::Line;
 pub use lines::Script;
 pub use loading::load;
 pub use reading::read;

@@ -1,8 +1,8 @@
 // A free-running counter that counts up and wraps at 2^width.
 ghost use Rattle.std.specs.Prelude.{◌≡◌, ◌^◌, ◌<◌, ◌≤◌};
+ghost use Rattle.clock.specs.Appointment.{Sound};
 ghost use Rattle.clock.specs.Calls.{Accepted};
 ghost use Rattle.clock.specs.Hold.{wait_for};
-ghost use Rattle.clock.specs.Kept.{within};
 ghost use Rattle.clock.specs.Making.{seen};
 ghost use Rattle.clock.specs.Wrap.{minus};
 ghost use Rattle.up.specs.Up.{up_meaning, up_made};
@@ -11,7 +11,6 @@ ghost use Rattle.std.proofs.Common.{rules, arith};
 
 use clock::alarm::{Alarm, Clock};
 use clock::appointment::Appointment;
-use clock::kept::Kept;
 use clock::width::Width;
 use fault::{Cause, Fault};
 
@@ -25,16 +24,17 @@ pub struct UpCounter {
     // the last accepted sample, which is the clock's reading
     last: u32,
     tag: u8,
-    kept: Kept,
+    appointment: Appointment,
     ghost wide: { 8 ≤ width.bits },
     ghost narrow: { width.bits ≤ 32 },
     ghost fits: { last < 2 ^ width.bits },
+    ghost sound: { Sound width.bits appointment },
 }
 
 impl UpCounter {
     // A counter of so many bits, 8 to 32, that shows `first` now.
     pub fn new(bits: u32, first: Word, tag: u8) -> Result<UpCounter, Fault>
-        ensures { seen (λ c. (up_meaning c.width.bits c.last c.tag, within c.width.bits c.kept.appointment)) result ≡ up_made bits first.0 tag }
+        ensures { seen (λ c. (up_meaning c.width.bits c.last c.tag, c.appointment)) result ≡ up_made bits first.0 tag }
     {
         if bits < 8 || bits > 32 {
             return Err(Fault::in_device(Cause::BadSetting, tag));
@@ -47,7 +47,7 @@ impl UpCounter {
             width,
             last: first.0,
             tag,
-            kept: Kept::new(),
+            appointment: Appointment::Idle,
         })
     }
 }
@@ -56,11 +56,11 @@ impl UpCounter {
     // Moves on to a sample that the counter can show, this many ticks after the last.
     fn accept(&mut self, sample: Word, gained: u64)
         requires { (sample.0 < 2 ^ self.old.width.bits) × (gained ≡ minus self.old.width.bits sample.0 self.old.last) }
-        ensures { Accepted (up_meaning self.old.width.bits self.old.last self.old.tag) (within self.old.width.bits self.old.kept.appointment) sample gained (up_meaning self.new.width.bits self.new.last self.new.tag) (within self.new.width.bits self.new.kept.appointment) }
+        ensures { Accepted (up_meaning self.old.width.bits self.old.last self.old.tag) self.old.appointment sample gained (up_meaning self.new.width.bits self.new.last self.new.tag) self.new.appointment }
     {
         let from = u64::from(self.last);
         self.last = sample.0;
-        self.kept.take(self.width, from, gained);
+        self.appointment.take(self.width, from, gained);
     }
 
     // A tick of this clock is a true tick.
@@ -92,7 +92,7 @@ impl Clock for UpCounter {
 }
 
 impl Alarm for UpCounter {
-    ghost appointment = { λ c. within c.width.bits c.kept.appointment };
+    ghost appointment = { λ c. c.appointment };
 
     ghost sound = { first_of (Prim.search rules, Prim.grind (arith, Self.row.coded.inj)) };
 
@@ -107,20 +107,20 @@ impl Alarm for UpCounter {
     }
 
     fn set(&mut self, reference: u64, delay: u64) -> Result<(), Fault> {
-        self.kept
+        self.appointment
             .set(self.width, u64::from(self.last), reference, delay)
     }
 
     fn stop(&mut self) -> bool {
-        self.kept.stop(self.width)
+        self.appointment.stop()
     }
 
     fn claim(&mut self) -> Option<u64> {
-        self.kept.claim(self.width)
+        self.appointment.claim()
     }
 
     fn hold(&mut self) -> u64 {
-        match self.kept.at(self.width) {
+        match self.appointment {
             Appointment::Idle => self.width.turn() - 1,
             Appointment::Standing(left) => self.wait(left),
             Appointment::Due(_) => 0,

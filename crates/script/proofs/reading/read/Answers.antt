@@ -1,4 +1,4 @@
-use Rattle.std.proofs.Common.{◌≡◌, ◌+◌, ◌-◌, ◌<◌, ◌≤◌, Bool, false, List, [], ◌∷◌, ◌++◌, length, drop, set, Ok, Err, sym, ap, ◌∙◌, arith, length-set, rules}
+use Rattle.std.proofs.Common.{◌≡◌, ◌+◌, ◌<◌, ◌≤◌, Bool, false, List, [], length, drop, set, Ok, Err, sym, ap, ◌∙◌, arith, length-set, rules}
 use Rattle.std.proofs.lemmas.List.{drop_all, append-nil}
 use Rattle.std.proofs.lemmas.Result.{err_from_is_err_and}
 use Rattle.std.proofs.lemmas.List.Sums.{count_by-le-length}
@@ -21,10 +21,10 @@ loop-byte-init c =
       size,
     )
 
-pub returns-in-err-line : goal.returns-in-err-line
-returns-in-err-line c =
-    let p = err_from_is_err_and c.from-residual.result c.from-residual.ensures.1 in
-    let stop = refused c.loop-byte.number c.loop-byte.byte c.loop-byte.open c.args.text.now c.loop-byte-test.true _ (sym c.ended_line.ensures ∙ c.in-err-line.was) in
+pub returns-in_err-line : goal.returns-in_err-line
+returns-in_err-line c =
+    let p = err_from_is_err_and c.from_residual.result c.from_residual.ensures.1 in
+    let stop = refused c.loop-byte.number c.loop-byte.byte c.loop-byte.open c.args.text.now c.loop-byte-test.true _ (sym c.ended_line.ensures ∙ c.in_err-line.was) in
     record {
       answer = ap read_as p.1 ∙ ap (λ e. Err e) p.2 ∙ sym (c.loop-byte.invariant.0 ∙ ap (prefixed (lines_of c.loop-byte.script)) stop);
       law = law c.args.free.now c.args.text.now;
@@ -32,34 +32,34 @@ returns-in-err-line c =
 
 pub close-requires : goal.close-requires
 close-requires c =
-    (taken c.loop-byte.number c.loop-byte.byte c.loop-byte.open c.args.text.now c.loop-byte-test.true _ _ (sym c.ended_line.ensures ∙ c.in-ok-line.was)).lawful.0
+    (taken c.loop-byte.number c.loop-byte.byte c.loop-byte.open c.args.text.now c.loop-byte-test.true _ _ (sym c.ended_line.ensures ∙ c.in_ok-line.was)).lawful.0
 
 pub add-requires : goal.add-requires
 add-requires c =
-    let here = taken c.loop-byte.number c.loop-byte.byte c.loop-byte.open c.args.text.now c.loop-byte-test.true _ _ (sym c.ended_line.ensures ∙ c.in-ok-line.was) in
+    let here = taken c.loop-byte.number c.loop-byte.byte c.loop-byte.open c.args.text.now c.loop-byte-test.true _ _ (sym c.ended_line.ensures ∙ c.in_ok-line.was) in
     let size : length c.loop-byte.open ≡ 32 = c.loop-byte.invariant.4 in
     let room : c.loop-byte.script.count + frees c.loop-byte.open ≤ 32 = c.loop-byte.invariant.3 in
-    omega (arith, frees_fewer c.loop-byte.open c.in-ok-line.line.slot (omega (arith, here.lawful.0)) here.lawful.1)
+    omega (arith, frees_fewer c.loop-byte.open c.in_ok-line.line.slot (omega (arith, here.lawful.0)) here.lawful.1)
 
-pub overflow-add-byte : goal.overflow-add-byte
-overflow-add-byte c =
-    let here = taken c.loop-byte.number c.loop-byte.byte c.loop-byte.open c.args.text.now c.loop-byte-test.true _ _ (sym c.ended_line.ensures ∙ c.in-ok-line.was) in
-    let short : c.in-ok-line.end < length c.args.text.now = here.short in
+pub overflow_add-byte : goal.overflow_add-byte
+overflow_add-byte c =
+    let here = taken c.loop-byte.number c.loop-byte.byte c.loop-byte.open c.args.text.now c.loop-byte-test.true _ _ (sym c.ended_line.ensures ∙ c.in_ok-line.was) in
+    let short : c.in_ok-line.end < length c.args.text.now = here.short in
     search rules
 
 pub loop-byte-smaller : goal.loop-byte-smaller
 loop-byte-smaller c =
     let inside = c.loop-byte-test.true in
-    let here = taken c.loop-byte.number c.loop-byte.byte c.loop-byte.open c.args.text.now inside _ _ (sym c.ended_line.ensures ∙ c.in-ok-line.was) in
+    let here = taken c.loop-byte.number c.loop-byte.byte c.loop-byte.open c.args.text.now inside _ _ (sym c.ended_line.ensures ∙ c.in_ok-line.was) in
     omega (arith, here.from, inside)
 
 pub loop-byte-preserved : goal.loop-byte-preserved
 loop-byte-preserved c =
     let free = c.loop-byte.open in
     let text = c.args.text.now in
-    let l = c.in-ok-line.line in
-    let end = c.in-ok-line.end in
-    let here = taken c.loop-byte.number c.loop-byte.byte free text c.loop-byte-test.true l end (sym c.ended_line.ensures ∙ c.in-ok-line.was) in
+    let l = c.in_ok-line.line in
+    let end = c.in_ok-line.end in
+    let here = taken c.loop-byte.number c.loop-byte.byte free text c.loop-byte-test.true l end (sym c.ended_line.ensures ∙ c.in_ok-line.was) in
     let size : length free ≡ 32 = c.loop-byte.invariant.4 in
     let room : c.loop-byte.script.count + frees free ≤ 32 = c.loop-byte.invariant.3 in
     let fewer = frees_fewer free l.slot (omega (arith, here.lawful.0)) here.lawful.1 in

@@ -1,4 +1,3 @@
-use Rattle.clock.specs.Kept.{within}
 use Rattle.std.proofs.Common.{rules}
 use Rattle.down.specs.DownCounters.{down_accepted}
 use Rattle.down.proofs.down.DownCounter.accept.Goals as goal
@@ -6,5 +5,5 @@ use Rattle.down.proofs.down.DownCounter.accept.Goals as goal
 pub returns : goal.returns
 returns c =
     let s = c.args.self.now in
-    down_accepted s.reload s.last s.reading s.tag c.args.sample.0 c.args.gained c.sum-self.result (within 32 s.kept.appointment) (within 32 c.take.new.self.appointment)
-    s.within (search rules) (search rules) c.sum-self.ensures c.take.ensures
+    down_accepted s.reload s.last s.reading s.tag c.args.sample.0 c.args.gained c.sum-self.result s.appointment c.take.new.self
+    s.within (search rules) (search rules) c.sum-self.ensures c.take.ensures.after

@@ -1,4 +1,3 @@
-use Rattle.clock.specs.Kept.{within}
 use Rattle.std.proofs.Common.{rules}
 use Rattle.up.specs.UpCounters.{up_accepted}
 use Rattle.up.proofs.up.UpCounter.accept.Goals as goal
@@ -6,5 +5,5 @@ use Rattle.up.proofs.up.UpCounter.accept.Goals as goal
 pub returns : goal.returns
 returns c =
     let s = c.args.self.now in
-    up_accepted s.width.bits s.last s.tag c.args.sample.0 c.args.gained (within s.width.bits s.kept.appointment) (within s.width.bits c.take.new.self.appointment)
+    up_accepted s.width.bits s.last s.tag c.args.sample.0 c.args.gained s.appointment c.take.new.self
     s.fits (search rules) (search rules) (search rules)

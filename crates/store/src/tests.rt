@@ -1,7 +1,5 @@
 // A few uses, as a caller writes them.
-use book::{Book, Firing, Reading};
-use queue::{Due, Queue};
-use sorting::in_order;
+use crate::{Book, Due, Firing, Queue, Reading, in_order};
 
 #[test]
 fn a_book_of_firings(rt: HostRuntime) {
