@@ -1,12 +1,12 @@
 -- The firings of jobs that wait: taken one by one they come in order, and none is left out. Assumes nothing.
-use Rattle.std.proofs.Common.{◌≡◌, ℕ, zero, suc, ◌+◌, ◌-◌, ◌*◌, ◌<◌, ◌≤◌, Bool, true, false, cond, ltb, ◌⊎◌, List, [], ◌∷◌, ◌++◌, map, length, Some, None, Option, sym, refl, ap, ◌∙◌, subst, inl, inr, ⊎_elim, add-zero, suc-mul, zero-mul, arith}
+use Rattle.std.proofs.Common.{◌≡◌, ℕ, zero, suc, ◌+◌, ◌-◌, ◌*◌, ◌<◌, ◌≤◌, Bool, true, false, cond, ltb, ◌⊎◌, List, [], ◌∷◌, length, Some, None, sym, refl, ap, ◌∙◌, subst, inl, inr, ⊎_elim, suc-mul, zero-mul, arith}
 use Rattle.std.specs.Ordering.{is_lt}
 use Rattle.std.specs.List.{AllByRecursion as All}
 use Rattle.std.proofs.ByRecursion.{All-weaker, all_shuffled}
 use Rattle.std.proofs.lemmas.Bool.{ltb-true, ltb-false, true≢false, cases_order}
 use Rattle.queue.specs.declared.dues.Due.{Due}
 use Rattle.queue.specs.Due.{due_compare, Earlier}
-use Rattle.queue.specs.Order.{inserted, added, in_order}
+use Rattle.queue.specs.Order.{inserted, added}
 use Rattle.queue.proofs.DueOrder.{earlier_from_less, less_from_earlier}
 use Rattle.queue.proofs.Ordered.{shuffled_inserted}
 use Rattle.jobs.specs.declared.Kind.{Kind}

@@ -1,5 +1,5 @@
 -- The law of a forecast, for lines that a script may have. Assumes nothing.
-use Rattle.std.proofs.Common.{◌≡◌, ℕ, ◌+◌, ◌^◌, ◌<◌, ◌≤◌, Bool, true, false, ◌&&◌, ltb, leb, ◌⊎◌, List, [], ◌∷◌, ◌++◌, map, length, sym, refl, ap, ◌∙◌, subst, inl, inr, ⊎_elim, arith}
+use Rattle.std.proofs.Common.{◌≡◌, ℕ, ◌+◌, ◌^◌, ◌<◌, ◌≤◌, Bool, true, ◌&&◌, ltb, leb, List, [], ◌∷◌, ◌++◌, map, length, inl, inr, ⊎_elim, arith}
 use Rattle.std.specs.List.{AllByRecursion as All}
 use Rattle.std.proofs.ByRecursion.{All-push, All-weaker}
 use Rattle.std.proofs.lemmas.List.{length_push}
@@ -13,14 +13,13 @@ use Rattle.jobs.specs.declared.Kind.TheVariants.{Once, Every, Burst}
 use Rattle.line.specs.declared.line.Line.{Line}
 use Rattle.forecasting.specs.declared.pending.Pending.{Pending}
 use Rattle.forecasting.specs.Forecast.{IsFiring, Among, Ordered, Fewer, Foretells, first_firings, ForecastLaw, all_free}
-use Rattle.forecasting.specs.Pending.{pending, pending_order, firings, spacing}
+use Rattle.forecasting.specs.Pending.{pending, pending_order, spacing}
 use Rattle.forecasting.specs.Plan.{Calm}
 use Rattle.line.specs.Text.{Lawful}
 use Rattle.script.specs.Text.{Different}
 use Rattle.forecasting.proofs.Earliness.{earlier_trans, earlier_never, all_from_among, all_among, fits_in, ordered_push}
-use Rattle.forecasting.proofs.Firings.{Pends, Active, OffSlot, Good, Fresh, Found, all_inserted, good_added, pends_added, added_pends, members, ordered, complete, length_firings}
+use Rattle.forecasting.proofs.Firings.{Pends, Active, Good, Fresh, Found, all_inserted, good_added, pends_added, added_pends, members, ordered, complete, length_firings}
 use Rattle.script.proofs.Laws.{law}
-use Rattle.forecasting.proofs.Rows.{all_in_order}
 
 -- ---- from lines to what waits
 

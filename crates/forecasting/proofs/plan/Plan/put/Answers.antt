@@ -1,5 +1,4 @@
-use Rattle.std.proofs.Common.{◌≡◌, ◌<◌, true, cond, length, lt-ltb, ap, ◌∙◌, arith}
-use Rattle.std.specs.Prelude.{nat_lt}
+use Rattle.std.proofs.Common.{◌<◌, cond, length, lt-ltb, ap, ◌∙◌, arith}
 use Rattle.queue.specs.Order.{inserted}
 use Rattle.forecasting.specs.Pending.{pending_order}
 use Rattle.forecasting.specs.Plan.{waiting}
