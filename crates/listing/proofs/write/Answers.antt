@@ -1,6 +1,6 @@
-use Rattle.std.proofs.Common.{◌≡◌, ℕ, ◌-◌, ◌*◌, ◌≤◌, List, map, length, take, sym, ap, ◌∙◌, arith, rules}
+use Rattle.std.proofs.Common.{◌≡◌, ◌-◌, ◌*◌, ◌≤◌, map, length, take, sym, ap, ◌∙◌, arith, rules}
 use Rattle.std.proofs.lemmas.List.{length-map}
-use Rattle.listing.specs.Listing.{rows_text, firings_text, result_text, listing_text}
+use Rattle.listing.specs.Listing.{rows_text, result_text, listing_text}
 use Rattle.listing.specs.Page.{page_text, page_after}
 use Rattle.listing.proofs.Listed.{listed_back, row_front}
 use Rattle.listing.proofs.Pages.{rows_firings}
