@@ -1,5 +1,5 @@
 -- The rate 2/3 above the rate 1/2: what the sample 3 gains of a fresh counter. Assumes nothing.
-use Rattle.std.proofs.Common.{◌≡◌, ℕ, ◌+◌, ◌*◌, ◌/◌, ◌%◌, ◌<◌, [], Ok, Err, Result, sym, refl, ap, ◌∙◌, subst, arith, lit<}
+use Rattle.std.proofs.Common.{◌≡◌, ℕ, Ok, Err, Result, refl, ap, ◌∙◌, subst, arith, lit<}
 use Rattle.fault.specs.declared.Fault.{Fault}
 use Rattle.clock.specs.declared.appointment.Appointment.{Appointment}
 use Rattle.up.specs.declared.up.Word.{Word}

@@ -1,9 +1,8 @@
-use Rattle.std.proofs.Common.{◌≡◌, ℕ, sym, refl, ap, ◌∙◌}
+use Rattle.std.proofs.Common.{ℕ, ap, ◌∙◌}
 use Rattle.clock.specs.declared.appointment.Appointment.TheVariants.{Idle}
 use Rattle.clock.specs.declared.appointment.Appointment.{Appointment}
 use Rattle.up.specs.declared.up.Word.{Word}
 use Rattle.clock.specs.Meaning.{Meaning}
-use Rattle.up.specs.Up.{up_meaning}
 use Rattle.rate.specs.Rate.{rate_meaning}
 use Rattle.worked.specs.Cases.{up}
 use Rattle.worked.proofs.Stacked.{ok_value, nothing_yet}
