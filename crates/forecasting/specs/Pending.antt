@@ -1,8 +1,8 @@
 -- Jobs that wait for their next firing: their order, what is left of one after a firing, and the firings of several in order.
 -- Assumes nothing.
-use Rattle.std.specs.Prelude.{◌≡◌, ℕ, zero, suc, ◌+◌, ◌-◌, Bool, cond, List, [], ◌∷◌, Some, None, Option, nat_lt}
+use Rattle.std.specs.Prelude.{◌≡◌, ℕ, zero, suc, ◌+◌, ◌-◌, cond, List, [], ◌∷◌, Some, None, Option, nat_lt}
 use Rattle.std.specs.declared.cmp.Ordering.{Ordering}
-use Rattle.std.specs.Cmp.{IsTotalOrder}
+use Rattle.std.specs.Cmp.{IsTotalOrder, on_total}
 use Rattle.queue.specs.Due.{due_compare, due_order}
 use Rattle.queue.specs.Order.{inserted}
 use Rattle.queue.specs.declared.dues.Due.{Due}
@@ -11,18 +11,16 @@ use Rattle.jobs.specs.declared.Kind.TheVariants.{Once, Every, Burst}
 use Rattle.line.specs.declared.line.Line.{Line}
 use Rattle.forecasting.specs.declared.pending.Pending.{Pending}
 
--- what `cmp` may answer: the order of the due records
+-- the order of the due records
+abbrev pub pending_compare : Pending → Pending → Ordering
+pending_compare x y = due_compare x.due y.due
+
+-- what `cmp` may answer
 abbrev pub pending_orders : Pending → Pending → Ordering → Type 0
 pending_orders x y r = r ≡ due_compare x.due y.due
 
-abbrev pub pending_order : IsTotalOrder pending_orders
-pending_order = record {
-  cmp = λ x y. due_compare x.due y.due;
-  says = λ x y r h. h;
-  flip = λ x y. due_order.antisymm x.due y.due;
-  trans = λ x y z. due_order.trans x.due y.due z.due;
-  alike = λ x y z. due_order.alike x.due y.due z.due;
-}
+abbrev pub pending_order : IsTotalOrder pending_compare
+pending_order = on_total (λ x. x.due) due_order
 
 -- a line's job as it waits for its first firing, where the script is loaded at this moment
 abbrev pub pending : ℕ → Line → Pending

@@ -1,7 +1,6 @@
 // A job that waits for its next firing.
 ghost use Rattle.std.specs.Prelude.{◌≡◌, ◌+◌, ◌^◌, ◌<◌, Some, refl};
-ghost use Rattle.forecasting.specs.Pending.{pending, pending_orders, again, spacing};
-ghost use Rattle.queue.specs.Due.{due_compare};
+ghost use Rattle.forecasting.specs.Pending.{pending, pending_compare, pending_order, pending_orders, again, spacing};
 ghost use Rattle.std.specs.Cmp.Rules.{comparing};
 ghost use Rattle.std.proofs.Common.{rules};
 ghost use Rattle.std.specs.Cmp.{partial_order_from_agreeing_total};
@@ -11,31 +10,37 @@ use line::Line;
 use queue::Due;
 use std::cmp::Ordering;
 
-#[derive(Clone, Copy, PartialEq, Eq)]
+#[derive(Clone, Copy)]
+#[derive_where(PartialEq, Eq)]
 pub(crate) struct Pending {
     pub(crate) due: Due,
+    // two that are due at once count as the same, as the order has it
+    #[derive_where(skip(EqHashOrd))]
     pub(crate) kind: Kind,
 }
 
 // By the next firing: its moment, and the lower slot on a tie.
 impl Ord for Pending {
-    ghost orders = { pending_orders };
+    ghost cmp = { pending_compare };
 
-    ghost total = { Prim.search (comparing, rules) };
+    ghost total = { pending_order };
 
     ghost matches_partial_cmp = { Prim.search (comparing, rules) };
 
     ghost matches_eq = { Prim.search (comparing, rules) };
 
-    fn cmp(&self, other: &Pending) -> Ordering {
+    fn cmp(&self, other: &Pending) -> Ordering
+        ensures answer { result ≡ pending_compare self.now other.now }
+        ensures orders { pending_orders self.now other.now result }
+    {
         self.due.cmp(&other.due)
     }
 }
 
 impl PartialOrd for Pending {
-    ghost partial_cmp = { λ x y. Some (due_compare x.due y.due) };
+    ghost partial_cmp = { λ x y. Some (pending_compare x y) };
 
-    ghost laws = { partial_order_from_agreeing_total (λ x y. due_compare x.due y.due) (Prim.search (comparing, rules)) (λ _ _. refl) (Prim.search (comparing, rules)) };
+    ghost laws = { partial_order_from_agreeing_total pending_compare pending_order (λ _ _. refl) (Prim.search (comparing, rules)) };
 
     fn partial_cmp(&self, other: &Pending) -> Option<Ordering> {
         Some(self.cmp(other))

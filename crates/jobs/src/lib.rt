@@ -1,8 +1,7 @@
 // What a job is; the state of the slot that it stands in; and what a logger answers of it.
-
-// How often a job fires, and how many ticks apart.
 #![tactic(auto)]
 
+// How often a job fires, and how many ticks apart.
 #[derive(Clone, Copy, PartialEq, Eq, Debug)]
 pub enum Kind {
     Once,

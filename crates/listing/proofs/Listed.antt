@@ -1,10 +1,10 @@
 -- What a listing lists. Assumes nothing.
-use Rattle.std.proofs.Common.{◌≡◌, ℕ, ◌+◌, ◌-◌, ◌≤◌, Bool, true, false, cond, ltb, List, [], ◌∷◌, ◌++◌, map, length, take, drop, Ok, Err, Result, sym, refl, ap, ◌∙◌, subst, arith}
+use Rattle.std.proofs.Common.{◌≡◌, ℕ, ◌-◌, ◌≤◌, ltb, List, map, length, take, drop, Ok, Err, Result, sym, refl, ap, ◌∙◌, subst, arith}
 use native.Mathlib.Nat.{sub-zero}
 use Rattle.std.proofs.lemmas.List.{take_at, length-map}
 use Rattle.fault.specs.declared.Fault.{Fault}
 use Rattle.queue.specs.declared.dues.Due.{Due}
-use Rattle.forecasting.specs.Forecast.{all_free, forecast_of, first_firings, how_many, row_after}
+use Rattle.forecasting.specs.Forecast.{all_free, forecast_of, how_many, row_after}
 use Rattle.listing.specs.Listing.{listed}
 use Rattle.script.specs.Script.{script_of}
 use Rattle.line.proofs.Binds.{err_not_ok, same_ok, bind_back, stop_back}

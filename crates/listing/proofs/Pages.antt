@@ -1,6 +1,6 @@
 -- A page after one thing was written, and another. Assumes nothing.
-use Rattle.std.proofs.Common.{◌≡◌, ℕ, zero, suc, ◌+◌, ◌-◌, ◌*◌, ◌/◌, ◌%◌, ◌^◌, ◌<◌, ◌≤◌, min, List, [], ◌∷◌, ◌++◌, map, length, get_or, take, drop, set, decimal, sym, refl, ap, ◌∙◌, append_assoc, add-one, arith, length-take}
-use Rattle.std.proofs.lemmas.List.{append-nil, take_all, take_at, take_more, take_more_set, length_push, length-append, length-take-le}
+use Rattle.std.proofs.Common.{◌≡◌, ℕ, zero, suc, ◌+◌, ◌<◌, ◌≤◌, min, List, [], ◌∷◌, ◌++◌, map, length, get_or, take, set, sym, refl, ap, ◌∙◌, append_assoc, arith}
+use Rattle.std.proofs.lemmas.List.{append-nil, take_all, take_at, take_more_set, length_push, length-take-le}
 use Rattle.fault.specs.declared.Part.{Part}
 use Rattle.fault.specs.declared.Part.TheVariants.{Device, Alarm, Logger, Script, Book, Lead}
 use Rattle.fault.specs.Text.{part_text}

@@ -14,27 +14,17 @@ use std::test::Fail;
 use widening::{Bits, Widening};
 
 #[test]
-fn an_up_counter(rt: HostRuntime) -> Result<(), Fail> {
+fn counters(rt: HostRuntime) -> Result<(), Fail> {
     let mut up = UpCounter::new(8, Word(250), 0)?;
     assert_eq!(rt;
         up.take(Word(256)),
         Err(Fault::in_device(Cause::StraySample, 0))
     );
     assert_eq!(rt; up.take(Word(4)), Ok(10));
-    Ok(())
-}
-
-#[test]
-fn a_widened_counter(rt: HostRuntime) -> Result<(), Fail> {
-    let mut wide = widened(250)?;
+    let mut wide = Widening::new(UpCounter::new(8, Word(250), 0)?, Bits::new(8)?);
     assert_eq!(rt; wide.reading(), 250);
     assert_eq!(rt; wide.take(Word(4)), Ok(10));
     assert_eq!(rt; wide.reading(), 260);
-    Ok(())
-}
-
-#[test]
-fn a_down_counter(rt: HostRuntime) -> Result<(), Fail> {
     let mut down = DownCounter::new(99, Count(30), 0)?;
     assert_eq!(rt;
         down.take(Count(100)),
@@ -76,42 +66,22 @@ fn leads(rt: HostRuntime) {
     assert_eq!(rt; lead(8, 130, 2), Err(Fault::in_lead(Cause::HalfTurn)));
 }
 
-// An up-counter of 8 bits, widened to 16.
-fn widened(first: u32) -> Result<Widening<UpCounter>, Fault> {
-    let up = UpCounter::new(8, Word(first), 0)?;
-    Ok(Widening::new(up, Bits::new(8)?))
-}
-
-fn above_an_up_counter() -> Result<Offset<Rate<Widening<UpCounter>>>, Fault> {
-    let slow = Rate::new(widened(0)?, Ratio::new(1, 2)?);
-    Ok(Offset::new(slow, Shift::new(1000)?))
-}
-
-fn above_a_down_counter() -> Result<Offset<Rate<Widening<DownCounter>>>, Fault> {
-    let down = DownCounter::new(9, Count(9), 0)?;
-    let slow = Rate::new(Widening::new(down, Bits::new(8)?), Ratio::new(2, 3)?);
-    Ok(Offset::new(slow, Shift::new(5)?))
-}
-
 #[test]
-fn three_layers_across_wraps_of_an_up_counter(rt: HostRuntime) -> Result<(), Fail> {
+fn three_layers_across_wraps(rt: HostRuntime) -> Result<(), Fail> {
     // 1900 true ticks in steps of 100, more than seven turns of the counter
-    let mut stack = above_an_up_counter()?;
+    let wide = Widening::new(UpCounter::new(8, Word(0), 0)?, Bits::new(8)?);
+    let mut up = Offset::new(Rate::new(wide, Ratio::new(1, 2)?), Shift::new(1000)?);
     for step in 1..20u32 {
-        assert_eq!(rt; stack.take(Word(step * 100 % 256)), Ok(50));
+        assert_eq!(rt; up.take(Word(step * 100 % 256)), Ok(50));
     }
-    assert_eq!(rt; stack.reading(), 1950);
-    Ok(())
-}
-
-#[test]
-fn three_layers_across_rounds_of_a_down_counter(rt: HostRuntime) -> Result<(), Fail> {
+    assert_eq!(rt; up.reading(), 1950);
     // 133 true ticks in steps of 7, more than thirteen rounds of ten
-    let mut stack = above_a_down_counter()?;
+    let wide = Widening::new(DownCounter::new(9, Count(9), 0)?, Bits::new(8)?);
+    let mut down = Offset::new(Rate::new(wide, Ratio::new(2, 3)?), Shift::new(5)?);
     for step in 1..20u32 {
-        let _ = stack.take(Count((209 - 7 * step) % 10))?;
+        let _ = down.take(Count((209 - 7 * step) % 10))?;
     }
-    assert_eq!(rt; stack.reading(), 93);
+    assert_eq!(rt; down.reading(), 93);
     Ok(())
 }
 
@@ -131,19 +101,14 @@ fn marked(slot: usize, due: u64) -> Option<Firing> {
     })
 }
 
-// A logger at 1000 with a job every 10 ticks in slot 2 and one that fires once in slot 1.
-fn with_two_jobs() -> Result<Logger<Rate<Widening<UpCounter>>>, Fault> {
-    let stack = Rate::new(widened(250)?, Ratio::new(1, 2)?);
+#[test]
+fn firings(rt: HostRuntime) -> Result<(), Fail> {
+    // at half the rate 50 true ticks, past a wrap of the counter, bring 25
+    let wide = Widening::new(UpCounter::new(8, Word(250), 0)?, Bits::new(8)?);
+    let stack = Rate::new(wide, Ratio::new(1, 2)?);
     let mut logger = Logger::new(stack, 0, Moment::new(1000)?);
     logger.set_up(2, 1000, 10, marks(Kind::Every { period: 10 }))?;
     logger.set_up(1, 1000, 20, marks(Kind::Once))?;
-    Ok(logger)
-}
-
-#[test]
-fn firings(rt: HostRuntime) -> Result<(), Fail> {
-    let mut logger = with_two_jobs()?;
-    // at half the rate 50 true ticks, past a wrap of the counter, bring 25
     assert_eq!(rt; logger.serve(Word(44)), Ok(1025));
     assert_eq!(rt; logger.next(), marked(2, 1010));
     assert_eq!(rt; logger.next(), marked(1, 1020));

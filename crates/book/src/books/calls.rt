@@ -9,11 +9,7 @@ use fault::{Cause, Fault};
 fn at<T: Copy>(records: &[T], i: usize) -> Option<T>
     ensures { result ≡ slice_get records.now i }
 {
-    if i < records.len() {
-        Some(records[i])
-    } else {
-        None
-    }
+    records.get(i).copied()
 }
 
 impl<'a, T: Copy> Book<'a, T> {

@@ -1,5 +1,5 @@
-use Rattle.std.proofs.Common.{◌≡◌, ℕ, ◌+◌, ◌*◌, ◌^◌, ◌<◌, ◌≤◌, min, List, map, length, Ok, Err, Result, sym, refl, ap, ◌∙◌, subst, arith, length-take}
-use Rattle.std.specs.List.{AllByRecursion as All}
+use Rattle.std.proofs.Common.{◌≡◌, ℕ, ◌+◌, ◌*◌, ◌^◌, ◌<◌, ◌≤◌, min, List, map, length, Ok, Result, sym, ap, ◌∙◌, subst, arith, length-take}
+use Rattle.std.specs.List.{AllByRecursion}
 use Rattle.std.proofs.ByRecursion.{All-weaker}
 use Rattle.fault.specs.declared.Fault.{Fault}
 use Rattle.queue.specs.declared.dues.Due.{Due}
@@ -19,13 +19,13 @@ use Rattle.forecasting.proofs.forecast.Goals as goal
 use Rattle.forecasting.proofs.forecast.Goals.{After-room-most}
 
 -- what the script was read as
-read_ok : (c : After-room-most) → script_of all_free c.args.script.now ≡ Ok (lines_of c.in-ok-loaded.loaded)
-read_ok c = sym c.read.ensures.answer ∙ ap read_as c.in-ok-loaded.was
+read_ok : (c : After-room-most) → script_of all_free c.args.script.now ≡ Ok (lines_of c.in_ok-loaded.loaded)
+read_ok c = sym c.read.ensures.answer ∙ ap read_as c.in_ok-loaded.was
 
-lawful : (c : After-room-most) → All (Lawful all_free) (lines_of c.in-ok-loaded.loaded)
-lawful c = ((law all_free c.args.script.now).written (lines_of c.in-ok-loaded.loaded) (read_ok c)).lawful
+lawful : (c : After-room-most) → AllByRecursion (Lawful all_free) (lines_of c.in_ok-loaded.loaded)
+lawful c = ((law all_free c.args.script.now).written (lines_of c.in_ok-loaded.loaded) (read_ok c)).lawful
 
-plan_is : (c : After-room-most) → waiting c.of-plan.result ≡ in_order pending_order (map (pending c.args.start.ticks) (lines_of c.in-ok-loaded.loaded))
+plan_is : (c : After-room-most) → waiting c.of-plan.result ≡ in_order pending_order (map (pending c.args.start.ticks) (lines_of c.in_ok-loaded.loaded))
 plan_is c =
     c.of-plan.ensures
     ∙ ap (λ s. in_order pending_order (map (pending s) c.lines.result.now)) c.ticks.ensures
@@ -37,7 +37,7 @@ most_is c = c.room-most.ensures
 foretold : (c : After-room-most) → forecast_of (places c.args.moments.now c.args.slots.now) c.args.start.ticks c.args.script.now ≡ Ok (firings c.room-most.result (waiting c.of-plan.result))
 foretold c =
     bind_ok _ (read_ok c)
-    ∙ ap (λ n. Ok (first_firings n c.args.start.ticks (lines_of c.in-ok-loaded.loaded))) (sym (most_is c))
+    ∙ ap (λ n. Ok (first_firings n c.args.start.ticks (lines_of c.in_ok-loaded.loaded))) (sym (most_is c))
     ∙ ap (λ w. Ok (firings c.room-most.result w)) (sym (plan_is c))
 
 -- what is answered and written, where all is done
@@ -53,13 +53,13 @@ module _ (n : ℕ) (ds : List Due) (moments slots : List ℕ) (i : ℕ) (moments
 
 pub of-plan-requires : goal.of-plan-requires
 of-plan-requires c =
-    let loaded = c.in-ok-loaded.loaded in
-    let ok = sym c.read.ensures.answer ∙ ap read_as c.in-ok-loaded.was in
+    let loaded = c.in_ok-loaded.loaded in
+    let ok = sym c.read.ensures.answer ∙ ap read_as c.in_ok-loaded.was in
     let all = ((law all_free c.args.script.now).written (lines_of loaded) ok).lawful in
     let early : c.args.start.ticks < 2 ^ 62 = c.args.start.early in
     let same : c.ticks.result ≡ c.args.start.ticks = c.ticks.ensures in
     let most : loaded.count ≤ 32 = loaded.within in
-    let P : List Line → Type 0 = λ ls. All (λ l. c.ticks.result + l.delay < 2 ^ 64) ls in
+    let P : List Line → Type 0 = λ ls. AllByRecursion (λ l. c.ticks.result + l.delay < 2 ^ 64) ls in
     record {
       few = rw c.lines.ensures (simp length-take (omega arith));
       early = subst P (sym c.lines.ensures) (All-weaker (Lawful all_free) (λ l. c.ticks.result + l.delay < 2 ^ 64) (λ l h. omega (arith, line_delay all_free l h)) (lines_of loaded) all);
@@ -67,9 +67,9 @@ of-plan-requires c =
 
 pub loop-i-init : goal.loop-i-init
 loop-i-init c =
-    let W : List _ → Type 0 = λ w. All (Calm (2 ^ 62 + 2 ^ 40)) w in
+    let W : List _ → Type 0 = λ w. AllByRecursion (Calm (2 ^ 62 + 2 ^ 40)) w in
     sofar_none c.room-most.result (waiting c.of-plan.result) c.args.moments.now c.args.slots.now
-    (subst W (sym (plan_is c)) (all_in_order (Calm (2 ^ 62 + 2 ^ 40)) _ (calm_lines all_free c.args.start.ticks (lines_of c.in-ok-loaded.loaded) c.args.start.early (lawful c))))
+    (subst W (sym (plan_is c)) (all_in_order (Calm (2 ^ 62 + 2 ^ 40)) _ (calm_lines all_free c.args.start.ticks (lines_of c.in_ok-loaded.loaded) c.args.start.early (lawful c))))
 
 pub next-requires : goal.next-requires
 next-requires c =
@@ -77,12 +77,12 @@ next-requires c =
     let few : i < 256 = omega (arith, c.loop-i-test.true, c.room-most.ensures) in
     calm_more (2 ^ 62 + (i + 1) * 2 ^ 40) (2 ^ 63) (waiting c.loop-i.plan) (omega arith) c.loop-i.invariant.calm
 
-pub returns-in-default : goal.returns-in-default
-returns-in-default c =
-    let d = (goal.at.returns-in-default c).After-room-most in
+pub returns-in_default : goal.returns-in_default
+returns-in_default c =
+    let d = (goal.at.returns-in_default c).After-room-most in
     let n = c.room-most.result in
     let ds = firings n (waiting c.of-plan.result) in
-    let done = done_early n ds c.args.moments.now c.args.slots.now c.loop-i.i c.loop-i.moments c.loop-i.slots (waiting c.loop-i.plan) c.in-default.ensures.answer c.loop-i.invariant in
+    let done = done_early n ds c.args.moments.now c.args.slots.now c.loop-i.i c.loop-i.moments c.loop-i.slots (waiting c.loop-i.plan) c.in_default.ensures.answer c.loop-i.invariant in
     record {
       answer = answered n ds c.args.moments.now c.args.slots.now c.loop-i.i c.loop-i.moments c.loop-i.slots _ (foretold d) done;
       moments = moments_after n ds c.args.moments.now c.args.slots.now c.loop-i.i c.loop-i.moments c.loop-i.slots _ (foretold d) done;

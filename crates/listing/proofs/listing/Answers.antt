@@ -9,6 +9,6 @@ returns c =
     let text = listing_text c.args.script.now in
     let written : page_text c.write.new.page ≡ text = c.write.ensures.text ∙ ap (λ t. page_after t text) c.new-page.ensures ∙ page_fits text c.write.ensures.size in
     record {
-      answer = c.copy-to.ensures.answer ∙ ap (λ t. copy_answer t c.args.buffer.now) written;
-      buffer = c.copy-to.ensures.buffer ∙ ap (λ t. copied t c.args.buffer.now) written;
+      answer = c.copy_to.ensures.answer ∙ ap (λ t. copy_answer t c.args.buffer.now) written;
+      buffer = c.copy_to.ensures.buffer ∙ ap (λ t. copied t c.args.buffer.now) written;
     }

@@ -1,16 +1,16 @@
-use Rattle.std.proofs.Common.{◌≡◌, ℕ, ◌-◌, ◌*◌, ◌≤◌, List, map, length, take, sym, ap, ◌∙◌, arith, rules}
+use Rattle.std.proofs.Common.{◌≡◌, ◌-◌, ◌*◌, ◌≤◌, map, length, take, sym, ap, ◌∙◌, arith, rules}
 use Rattle.std.proofs.lemmas.List.{length-map}
-use Rattle.listing.specs.Listing.{rows_text, firings_text, result_text, listing_text}
+use Rattle.listing.specs.Listing.{rows_text, result_text, listing_text}
 use Rattle.listing.specs.Page.{page_text, page_after}
 use Rattle.listing.proofs.Listed.{listed_back, row_front}
 use Rattle.listing.proofs.Pages.{rows_firings}
 use Rattle.listing.proofs.write.Goals as goal
 
-pub slice-bounds-rows-end : goal.slice-bounds-rows-end
-slice-bounds-rows-end c = let few : c.in-Ok.count ≤ 20 = (listed_back 20 c.args.script.now c.in-Ok.count c.in-Ok.ensures.answer).few in search rules
+pub slice_bounds-rows-end : goal.slice_bounds-rows-end
+slice_bounds-rows-end c = let few : c.in-Ok.count ≤ 20 = (listed_back 20 c.args.script.now c.in-Ok.count c.in-Ok.ensures.answer).few in search rules
 
-pub slice-bounds-rows-end-in-Ok : goal.slice-bounds-rows-end-in-Ok
-slice-bounds-rows-end-in-Ok c = let few : c.in-Ok.count ≤ 20 = (listed_back 20 c.args.script.now c.in-Ok.count c.in-Ok.ensures.answer).few in search rules
+pub slice_bounds-rows-end-in-Ok : goal.slice_bounds-rows-end-in-Ok
+slice_bounds-rows-end-in-Ok c = let few : c.in-Ok.count ≤ 20 = (listed_back 20 c.args.script.now c.in-Ok.count c.in-Ok.ensures.answer).few in search rules
 
 pub returns-in-Ok : goal.returns-in-Ok
 returns-in-Ok c =

@@ -11,9 +11,9 @@ use Rattle.worked.proofs.two_rates.Goals as goal
 
 pub returns : goal.returns
 returns c =
-    let counter = ap (λ r. (ok_value {A = Meaning Word × Appointment} (up 8 0, Idle) r).0) c.in-ok-counter.ensures in
-    let low = ap (λ r. ok_value {A = ℕ × ℕ} (0, 0) r) c.in-ok-new.ensures in
-    let high = ap (λ r. ok_value {A = ℕ × ℕ} (0, 0) r) c.in-ok-new-2.ensures in
+    let counter = ap (λ r. (ok_value {A = Meaning Word × Appointment} (up 8 0, Idle) r).0) c.in_ok-counter.ensures in
+    let low = ap (λ r. ok_value {A = ℕ × ℕ} (0, 0) r) c.in_ok-new.ensures in
+    let high = ap (λ r. ok_value {A = ℕ × ℕ} (0, 0) r) c.in_ok-new-2.ensures in
     let half = c.new-half.ensures.clock ∙ (λ i. rate_meaning (counter i) (low i).0 (low i).1 0 0) in
     let third = c.new-third.ensures.clock ∙ (λ i. rate_meaning (half i) (high i).0 (high i).1 0 0) in
     nothing_yet _ third _ _ _ _ c.take.ensures

@@ -1,4 +1,4 @@
-use Rattle.std.proofs.Common.{◌≡◌, ◌≤◌, [], ◌∷◌, ◌++◌, length, codes, decimal, ap, ◌∙◌, append_assoc, arith, length-append}
+use Rattle.std.proofs.Common.{◌≤◌, ◌++◌, length, codes, decimal, ap, ◌∙◌, append_assoc, arith, length-append}
 use Rattle.listing.specs.Page.{page_text, page_after}
 use Rattle.listing.proofs.Pages.{page_more}
 use Rattle.listing.proofs.page.Page.line_and_byte.Goals as goal

@@ -1,4 +1,4 @@
-use Rattle.std.proofs.Common.{◌≡◌, ◌≤◌, [], ◌∷◌, ◌++◌, length, decimal, ap, ◌∙◌, append_assoc, arith, length-append}
+use Rattle.std.proofs.Common.{◌≤◌, [], ◌∷◌, ◌++◌, length, decimal, ap, ◌∙◌, append_assoc, arith, length-append}
 use Rattle.fault.specs.Text.{part_text}
 use Rattle.listing.specs.Page.{page_text, page_after}
 use Rattle.listing.proofs.Pages.{page_more, part_size}

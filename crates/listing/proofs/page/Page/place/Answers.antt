@@ -10,8 +10,8 @@ returns-in-Nought c =
     let zero : decimal 0 ≡ 48 ∷ [] = decimal_digit 0 (omega arith) in
     let same : p ++ (32 ∷ decimal 0) ≡ p ++ (32 ∷ (48 ∷ [])) = ap (λ x. p ++ (32 ∷ x)) zero in
     let is : p ++ (32 ∷ decimal 0) ≡ where_text c.args.part c.args.place = same ∙ ap (where_text c.args.part) (sym c.in-Nought.is) in
-    let short : length (p ++ (32 ∷ decimal 0)) ≤ 27 = c.part-at-in-Nought.ensures.size in
+    let short : length (p ++ (32 ∷ decimal 0)) ≤ 27 = c.part_at-in-Nought.ensures.size in
     record {
-      text = c.part-at-in-Nought.ensures.text ∙ ap (page_after (page_text c.args.self.now)) is;
+      text = c.part_at-in-Nought.ensures.text ∙ ap (page_after (page_text c.args.self.now)) is;
       size = omega (arith, ap length is);
     }

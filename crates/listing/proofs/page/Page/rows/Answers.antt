@@ -1,4 +1,4 @@
-use Rattle.std.proofs.Common.{◌≡◌, ◌+◌, ◌*◌, ◌<◌, ◌≤◌, min, [], ◌∷◌, ◌++◌, length, get_or, take, sym, ap, ◌∙◌, add-one, arith, length-append}
+use Rattle.std.proofs.Common.{◌≡◌, ◌+◌, ◌<◌, ◌≤◌, min, ◌++◌, length, get_or, take, sym, ap, ◌∙◌, add-one, arith, length-append}
 use Rattle.std.proofs.lemmas.List.{length-take-le}
 use Rattle.listing.specs.Listing.{row_text, rows_text}
 use Rattle.listing.specs.Page.{page_text, page_after}
