@@ -1,7 +1,7 @@
 -- The firings of jobs that wait: taken one by one they come in order, and none is left out. Assumes nothing.
 use Rattle.std.proofs.Common.{◌≡◌, ℕ, zero, suc, ◌+◌, ◌-◌, ◌*◌, ◌<◌, ◌≤◌, Bool, true, false, cond, ltb, ◌⊎◌, List, [], ◌∷◌, length, Some, None, sym, refl, ap, ◌∙◌, subst, inl, inr, ⊎_elim, suc-mul, zero-mul, arith}
 use Rattle.std.specs.Ordering.{is_lt}
-use Rattle.std.specs.List.{AllByRecursion as All}
+use Rattle.std.specs.List.{AllByRecursion}
 use Rattle.std.proofs.ByRecursion.{All-weaker, all_shuffled}
 use Rattle.std.proofs.lemmas.Bool.{ltb-true, ltb-false, true≢false, cases_order}
 use Rattle.queue.specs.declared.dues.Due.{Due}
@@ -36,9 +36,9 @@ Apart p r = Earlier p.due r.due × OffSlot p r
 -- those that wait are in order, each in a slot of its own
 abbrev pub Good : List Pending → Type 0
 Good [] = Unit {0}
-Good (p ∷ q) = Active p.kind × All (Apart p) q × Good q
+Good (p ∷ q) = Active p.kind × AllByRecursion (Apart p) q × Good q
 
-pub all_inserted : (P : Pending → Type 0) (x : Pending) (q : List Pending) → P x → All P q → All P (inserted pending_order x q)
+pub all_inserted : (P : Pending → Type 0) (x : Pending) (q : List Pending) → P x → AllByRecursion P q → AllByRecursion P (inserted pending_order x q)
 all_inserted P x q h hs = all_shuffled P (x ∷ q) (inserted pending_order x q) (shuffled_inserted pending_order x q) (h, hs)
 
 not_earlier : (x y : Due) → is_lt (due_compare x y) ≡ false → (x.slot ≡ y.slot → ⊥) → Earlier y x
@@ -51,11 +51,11 @@ not_earlier x y e apart =
     no : Earlier x y → ⊥
     no b = true≢false (sym (less_from_earlier x y b) ∙ e)
 
-pub good_inserted : (x : Pending) (q : List Pending) → Active x.kind → All (OffSlot x) q → Good q → Good (inserted pending_order x q)
+pub good_inserted : (x : Pending) (q : List Pending) → Active x.kind → AllByRecursion (OffSlot x) q → Good q → Good (inserted pending_order x q)
 good_inserted x [] a off g = (a, tt, tt)
 good_inserted x (y ∷ ys) a off g = at (is_lt (due_compare x.due y.due)) (earlier_from_less x.due y.due) (not_earlier x.due y.due) (good_inserted x ys a off.1 g.2)
   where
-    both : (zs : List Pending) → Earlier x.due y.due → All (Apart y) zs → All (OffSlot x) zs → All (Apart x) zs
+    both : (zs : List Pending) → Earlier x.due y.due → AllByRecursion (Apart y) zs → AllByRecursion (OffSlot x) zs → AllByRecursion (Apart x) zs
     both [] b h o = tt
     both (z ∷ zs) b h o = ((earlier_trans x.due y.due z.due b h.0.0, o.0), both zs b h.1 o.1)
 
@@ -120,7 +120,7 @@ rests_to d (Burst c p) q y h = at (ltb 1 c) (ltb-false 1 c) h
     at false few (inl r) = let low = few refl in absurd (omega (arith, r.1.1))
     at false few (inr h) = h
 
-good_again : (d : Due) (k : Kind) (q : List Pending) → Active k → All (λ r. d.slot ≡ r.due.slot → ⊥) q → Good q → Good (put_back (again d k) q)
+good_again : (d : Due) (k : Kind) (q : List Pending) → Active k → AllByRecursion (λ r. d.slot ≡ r.due.slot → ⊥) q → Good q → Good (put_back (again d k) q)
 good_again d Once q a off g = g
 good_again d (Every p) q a off g = good_inserted _ q a off g
 good_again d (Burst c p) q a off g = at (ltb 1 c) (ltb-true 1 c)
@@ -139,7 +139,7 @@ rests_later d Once y a r = absurd (omega (arith, r.1.1))
 rests_later d (Every p) y a r = let e = suc-mul r.1.0 p in inl (omega (arith, r.1.2))
 rests_later d (Burst c p) y a r = let e = suc-mul r.1.0 p in inl (omega (arith, r.1.2, a.1))
 
-pends_later : (p : Pending) (q : List Pending) (y : Due) → All (Apart p) q → Pends q y → Earlier p.due y
+pends_later : (p : Pending) (q : List Pending) (y : Due) → AllByRecursion (Apart p) q → Pends q y → Earlier p.due y
 pends_later p [] y h n = absurd n
 pends_later p (r ∷ q) y h (inl f) = earlier_reach p.due r.due y h.0.0 f.0 (omega (arith, f.1.2))
 pends_later p (r ∷ q) y h (inr n) = pends_later p q y h.1 n
@@ -172,7 +172,7 @@ ordered (suc n) (p ∷ q) g = (
 
 -- x is among the first n firings, or all of these come before it
 abbrev pub Found : ℕ → List Due → Due → Type 0
-Found n ds x = Among x ds ⊎ ((length ds ≡ n) × All (λ y. Earlier y x) ds)
+Found n ds x = Among x ds ⊎ ((length ds ≡ n) × AllByRecursion (λ y. Earlier y x) ds)
 
 first_or_rest : (d : Due) (k : Kind) (x : Due) → FiresAt d.slot d.moment k x → (x ≡ d) ⊎ Rests d k x
 first_or_rest d k x h = at h.1.0 h.1.1 h.1.2
@@ -207,7 +207,7 @@ length_firings (suc n) (p ∷ q) = let h = length_firings n (fired_first p q) in
 -- each of xs is put in beside slots that are not its own
 abbrev pub Fresh : List Pending → List Pending → Type 0
 Fresh q [] = Unit {0}
-Fresh q (x ∷ xs) = Active x.kind × All (OffSlot x) q × Fresh (inserted pending_order x q) xs
+Fresh q (x ∷ xs) = Active x.kind × AllByRecursion (OffSlot x) q × Fresh (inserted pending_order x q) xs
 
 pub good_added : (q xs : List Pending) → Good q → Fresh q xs → Good (added pending_order q xs)
 good_added q [] g f = g

@@ -1,6 +1,6 @@
 -- The law of a forecast, for lines that a script may have. Assumes nothing.
 use Rattle.std.proofs.Common.{◌≡◌, ℕ, ◌+◌, ◌^◌, ◌<◌, ◌≤◌, Bool, true, ◌&&◌, ltb, leb, List, [], ◌∷◌, ◌++◌, map, length, inl, inr, ⊎_elim, arith}
-use Rattle.std.specs.List.{AllByRecursion as All}
+use Rattle.std.specs.List.{AllByRecursion}
 use Rattle.std.proofs.ByRecursion.{All-push, All-weaker}
 use Rattle.std.proofs.lemmas.List.{length_push}
 use Rattle.std.proofs.lemmas.Bool.{and_parts, leb-true, ltb-true}
@@ -48,25 +48,25 @@ line_kind free l h =
 pub line_delay : (free : List Bool) (l : Line) → Lawful free l → l.delay < 2 ^ 40
 line_delay free l h = ltb-true l.delay (2 ^ 40) (and_parts (ltb l.delay (2 ^ 40)) (kind_fits l.job.kind && action_fits l.job.action) h.2).0
 
-pub calm_lines : (free : List Bool) (start : ℕ) (ls : List Line) → start < 2 ^ 62 → All (Lawful free) ls → All (Calm (2 ^ 62 + 2 ^ 40)) (map (pending start) ls)
+pub calm_lines : (free : List Bool) (start : ℕ) (ls : List Line) → start < 2 ^ 62 → AllByRecursion (Lawful free) ls → AllByRecursion (Calm (2 ^ 62 + 2 ^ 40)) (map (pending start) ls)
 calm_lines free start [] early h = tt
 calm_lines free start (l ∷ ls) early h =
     ((omega (arith, line_delay free l h.0), near_kind l.job.kind (line_kind free l h.0)), calm_lines free start ls early h.1)
 
 abbrev Off : List Pending → Line → Type 0
-Off q l = All (λ (r : Pending). l.slot ≡ r.due.slot → ⊥) q
+Off q l = AllByRecursion (λ (r : Pending). l.slot ≡ r.due.slot → ⊥) q
 
-off_more : (start : ℕ) (q : List Pending) (l : Line) (ls : List Line) → All (Off q) ls → All (λ m. m.slot ≡ l.slot → ⊥) ls → All (Off (inserted pending_order (pending start l) q)) ls
+off_more : (start : ℕ) (q : List Pending) (l : Line) (ls : List Line) → AllByRecursion (Off q) ls → AllByRecursion (λ m. m.slot ≡ l.slot → ⊥) ls → AllByRecursion (Off (inserted pending_order (pending start l) q)) ls
 off_more start q l [] h d = tt
 off_more start q l (m ∷ ms) h d =
     (all_inserted (λ r. m.slot ≡ r.due.slot → ⊥) (pending start l) q d.0 h.0, off_more start q l ms h.1 d.1)
 
-fresh_lines : (free : List Bool) (start : ℕ) (q : List Pending) (ls : List Line) → All (Lawful free) ls → All (Off q) ls → Different ls → Fresh q (map (pending start) ls)
+fresh_lines : (free : List Bool) (start : ℕ) (q : List Pending) (ls : List Line) → AllByRecursion (Lawful free) ls → AllByRecursion (Off q) ls → Different ls → Fresh q (map (pending start) ls)
 fresh_lines free start q [] h o d = tt
 fresh_lines free start q (l ∷ ls) h o d =
     (active_kind l.job.kind (line_kind free l h.0), o.0, fresh_lines free start (inserted pending_order (pending start l) q) ls h.1 (off_more start q l ls o.1 d.0) d.1)
 
-off_none : (ls : List Line) → All (Off []) ls
+off_none : (ls : List Line) → AllByRecursion (Off []) ls
 off_none [] = tt
 off_none (l ∷ ls) = (tt, off_none ls)
 
@@ -82,7 +82,7 @@ pend_lines start (l ∷ ls) x (inr h) = inr (pend_lines start ls x h)
 
 -- ---- the law
 
-pub foretells : (free : List Bool) (n start : ℕ) (ls : List Line) → All (Lawful free) ls → Different ls → Foretells n start ls (first_firings n start ls)
+pub foretells : (free : List Bool) (n start : ℕ) (ls : List Line) → AllByRecursion (Lawful free) ls → Different ls → Foretells n start ls (first_firings n start ls)
 foretells free n start ls lawful different = record {
   ordered = in_turn;
   firing = λ x m. (is_firing x m, fewer x m);
@@ -118,9 +118,9 @@ foretells free n start ls lawful different = record {
         let size = fits_in ds (ys ++ (x ∷ [])) in_turn (ordered_push ys x o before) (All-push (λ y. Among y ds) ys x here m) in
         omega (arith, size, length_push ys x, length_firings n q)
 
-    none : (x : Due) → Fewer n start ls x → (length ds ≡ n) × All (λ y. Earlier y x) ds → ⊥
+    none : (x : Due) → Fewer n start ls x → (length ds ≡ n) × AllByRecursion (λ y. Earlier y x) ds → ⊥
     none x few o =
-        let both : (es : List Due) → ((y : Due) → Among y es → IsFiring start ls y) → All (λ y. Earlier y x) es → All (λ y. IsFiring start ls y × Earlier y x) es = λ es f e. all_from_among (λ y. IsFiring start ls y × Earlier y x) es (λ y m. (f y m, all_among (λ z. Earlier z x) es y e m)) in
+        let both : (es : List Due) → ((y : Due) → Among y es → IsFiring start ls y) → AllByRecursion (λ y. Earlier y x) es → AllByRecursion (λ y. IsFiring start ls y × Earlier y x) es = λ es f e. all_from_among (λ y. IsFiring start ls y × Earlier y x) es (λ y m. (f y m, all_among (λ z. Earlier z x) es y e m)) in
         let h = few ds in_turn (both ds is_firing o.1) in
         omega (arith, h, o.0)
 

@@ -1,7 +1,7 @@
 -- A row into which firings are written one by one. Assumes nothing.
 use Rattle.std.proofs.Common.{◌≡◌, ℕ, zero, suc, ◌+◌, ◌-◌, ◌*◌, ◌^◌, ◌<◌, ◌≤◌, Bool, true, false, cond, ltb, List, [], ◌∷◌, ◌++◌, map, length, take, drop, set, Some, None, sym, refl, ap, ◌∙◌, subst, add-one, arith}
 use native.Mathlib.Nat.{sub-zero}
-use Rattle.std.specs.List.{AllByRecursion as All}
+use Rattle.std.specs.List.{AllByRecursion}
 use Rattle.std.proofs.ByRecursion.{All-weaker, all_shuffled}
 use Rattle.std.proofs.lemmas.List.{take_all}
 use Rattle.queue.specs.declared.dues.Due.{Due}
@@ -48,21 +48,21 @@ firings_nil (suc n) = refl
 
 -- ---- moments stay small
 
-all_inserted : (P : Pending → Type 0) (x : Pending) (q : List Pending) → P x → All P q → All P (inserted pending_order x q)
+all_inserted : (P : Pending → Type 0) (x : Pending) (q : List Pending) → P x → AllByRecursion P q → AllByRecursion P (inserted pending_order x q)
 all_inserted P x q h hs = all_shuffled P (x ∷ q) (inserted pending_order x q) (shuffled_inserted pending_order x q) (h, hs)
 
-pub all_in_order : (P : Pending → Type 0) (q : List Pending) → All P q → All P (in_order pending_order q)
+pub all_in_order : (P : Pending → Type 0) (q : List Pending) → AllByRecursion P q → AllByRecursion P (in_order pending_order q)
 all_in_order P q h = all_shuffled P q (in_order pending_order q) (shuffled_in_order pending_order q) h
 
-pub calm_more : (b b' : ℕ) (q : List Pending) → b ≤ b' → All (Calm b) q → All (Calm b') q
+pub calm_more : (b b' : ℕ) (q : List Pending) → b ≤ b' → AllByRecursion (Calm b) q → AllByRecursion (Calm b') q
 calm_more b b' q h all = All-weaker (Calm b) (Calm b') (λ p c. (omega (arith, c.0), c.1)) q all
 
-calm_again : (b : ℕ) (d : Due) (k : Kind) (q : List Pending) → d.moment < b → spacing k < 2 ^ 40 → All (Calm b) q → All (Calm (b + 2 ^ 40)) (put_back (again d k) q)
+calm_again : (b : ℕ) (d : Due) (k : Kind) (q : List Pending) → d.moment < b → spacing k < 2 ^ 40 → AllByRecursion (Calm b) q → AllByRecursion (Calm (b + 2 ^ 40)) (put_back (again d k) q)
 calm_again b d Once q early near all = calm_more b (b + 2 ^ 40) q (omega arith) all
 calm_again b d (Every p) q early near all = all_inserted (Calm (b + 2 ^ 40)) _ q (omega arith, near) (calm_more b (b + 2 ^ 40) q (omega arith) all)
 calm_again b d (Burst c p) q early near all = at (ltb 1 c)
   where
-    at : (t : Bool) → All (Calm (b + 2 ^ 40)) (put_back (cond t (Some (record { due = later_by p d; kind = Burst (c - 1) p })) None) q)
+    at : (t : Bool) → AllByRecursion (Calm (b + 2 ^ 40)) (put_back (cond t (Some (record { due = later_by p d; kind = Burst (c - 1) p })) None) q)
     at true = all_inserted (Calm (b + 2 ^ 40)) _ q (omega arith, near) (calm_more b (b + 2 ^ 40) q (omega arith) all)
     at false = calm_more b (b + 2 ^ 40) q (omega arith) all
 
@@ -74,9 +74,9 @@ pub record Sofar (n : ℕ) (ds : List Due) (moments slots : List ℕ) (i : ℕ) 
   pub bound : i ≤ length ds
   pub moments_is : moments' ≡ written (λ d. d.moment) i ds moments
   pub slots_is : slots' ≡ written (λ d. d.slot) i ds slots
-  pub calm : All (Calm (2 ^ 62 + (i + 1) * 2 ^ 40)) w
+  pub calm : AllByRecursion (Calm (2 ^ 62 + (i + 1) * 2 ^ 40)) w
 
-pub sofar_none : (n : ℕ) (w : List Pending) (moments slots : List ℕ) → All (Calm (2 ^ 62 + 2 ^ 40)) w → Sofar n (firings n w) moments slots 0 moments slots w
+pub sofar_none : (n : ℕ) (w : List Pending) (moments slots : List ℕ) → AllByRecursion (Calm (2 ^ 62 + 2 ^ 40)) w → Sofar n (firings n w) moments slots 0 moments slots w
 sofar_none n w moments slots calm = record {
   left = ap (λ m. firings m w) (sym (sub-zero n));
   bound = omega arith;

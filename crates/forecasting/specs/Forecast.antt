@@ -1,7 +1,7 @@
 -- The forecast of a script: its first firings in order, what a call writes of them, and what they are among all firings.
 -- Assumes nothing.
 use Rattle.std.specs.Prelude.{◌≡◌, ℕ, ◌+◌, ◌*◌, ◌<◌, min, Bool, true, ◌⊎◌, List, [], ◌∷◌, ◌++◌, map, length, drop, replicate, Ok, Err, Result}
-use Rattle.std.specs.List.{AllByRecursion as All}
+use Rattle.std.specs.List.{AllByRecursion}
 use Rattle.fault.specs.declared.Fault.{Fault}
 use Rattle.queue.specs.Due.{Earlier}
 use Rattle.queue.specs.Order.{in_order}
@@ -63,11 +63,11 @@ Among x (y ∷ ys) = (x ≡ y) ⊎ Among x ys
 -- each before those that follow
 abbrev pub Ordered : List Due → Type 0
 Ordered [] = Unit {0}
-Ordered (x ∷ xs) = All (Earlier x) xs × Ordered xs
+Ordered (x ∷ xs) = AllByRecursion (Earlier x) xs × Ordered xs
 
 -- fewer than n firings come before x: whichever ones are listed, in their order, they are fewer
 abbrev pub Fewer : ℕ → ℕ → List Line → Due → Type 0
-Fewer n start ls x = (ys : List Due) → Ordered ys → All (λ y. IsFiring start ls y × Earlier y x) ys → length ys < n
+Fewer n start ls x = (ys : List Due) → Ordered ys → AllByRecursion (λ y. IsFiring start ls y × Earlier y x) ys → length ys < n
 
 -- the law of a forecast ds of n firings: it is in order, and holds a firing exactly when fewer than n come before it
 pub record Foretells (n start : ℕ) (ls : List Line) (ds : List Due) : Type 0 where

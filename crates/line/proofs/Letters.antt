@@ -1,6 +1,6 @@
 -- The words of a line have neither spaces nor line ends in them. Assumes nothing.
 use Rattle.std.proofs.Common.{◌≡◌, ℕ, ◌^◌, ◌<◌, ◌≤◌, Bool, true, false, ◌&&◌, eqb, leb, List, [], ◌∷◌, decimal, refl, ◌∙◌, arith}
-use Rattle.std.specs.List.{AllByRecursion as All}
+use Rattle.std.specs.List.{AllByRecursion}
 use Rattle.std.proofs.lemmas.Fmt.{digits_decimal}
 use Rattle.std.proofs.ByRecursion.{All-append, All-weaker}
 use Rattle.std.proofs.lemmas.Bool.{and_from, and_parts, leb-true, ne_eqb}
@@ -56,7 +56,7 @@ pub record Small (l : Line) : Type 0 where
   pub action : action_small l.job.action
 
 abbrev Clean : List (List ℕ) → Type 0
-Clean ws = All (λ w. above w ≡ true) ws
+Clean ws = AllByRecursion (λ w. above w ≡ true) ws
 
 clean_action : (a : Action) → action_small a → Clean (action_words a [])
 clean_action (Read channel) h = (refl, (above_decimal channel h, tt))
@@ -70,10 +70,10 @@ clean_kind (Burst n p) d more h hd m = (refl, (above_decimal n h.0, (above_decim
 clean_line : (l : Line) → Small l → Clean (line_words l)
 clean_line l s = (above_decimal l.slot s.slot, clean_kind l.job.kind l.delay _ s.kind s.delay (clean_action l.job.action s.action))
 
-clean_lacks : (c : ℕ) (ws : List (List ℕ)) → c < 48 → Clean ws → All (Lacks c) ws
+clean_lacks : (c : ℕ) (ws : List (List ℕ)) → c < 48 → Clean ws → AllByRecursion (Lacks c) ws
 clean_lacks c ws h m = All-weaker (λ w. above w ≡ true) (Lacks c) (λ w e. lacks_above c w h e) ws m
 
-joined_lacks : (c : ℕ) (ps : List (List ℕ)) → eqb 32 c ≡ false → All (Lacks c) ps → Lacks c (joined_by 32 ps)
+joined_lacks : (c : ℕ) (ps : List (List ℕ)) → eqb 32 c ≡ false → AllByRecursion (Lacks c) ps → Lacks c (joined_by 32 ps)
 joined_lacks c [] n h = tt
 joined_lacks c (p ∷ []) n h = h.0
 joined_lacks c (p ∷ (q ∷ qs)) n h =

@@ -7,7 +7,7 @@ use clock::alarm::Alarm;
 use fault::Fault;
 
 // X is the kind of sample.
-#[derive(Drop)]
+#[derive(Clone, Copy)]
 pub enum Call<X> {
     Width,
     Reach,

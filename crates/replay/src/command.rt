@@ -5,7 +5,7 @@ use crate::plan::{Device, Layer, Layers, Plan};
 use jobs::{Action, Job, Kind};
 use words::{Words, number};
 
-#[derive(Drop)]
+#[derive(Clone, Copy)]
 pub enum Command {
     Build(Plan),
     Ask(Call<u64>),

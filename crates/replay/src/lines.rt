@@ -2,12 +2,12 @@
 use answers::Answer;
 use std::alloc::Global;
 use std::io;
-use std::io::{BufRead, BufReader, Stdin};
+use std::io::{BufRead, StdinLock};
 
 #[derive(Drop)]
 pub struct Lines {
     rt: HostRuntime,
-    input: BufReader<Stdin>,
+    input: StdinLock<'static>,
     line: Vec<u8>,
     // of the line read last, from 1
     number: u64,
@@ -15,7 +15,7 @@ pub struct Lines {
 
 impl Lines {
     pub fn new(rt: HostRuntime) -> Lines {
-        let input = BufReader::new(rt.stdin());
+        let input = rt.reader();
         let line = Vec::new(rt.alloc());
         Lines {
             rt,

@@ -7,7 +7,7 @@ use logger::logger::Logger;
 use std::io;
 
 // X is the kind of sample.
-#[derive(Drop)]
+#[derive(Clone, Copy)]
 pub enum LogCall<X> {
     Serve(X),
     SetUp {

@@ -61,7 +61,7 @@ impl Layers {
 }
 
 impl Layer {
-    fn setting(self) -> Result<Setting, Fault> {
+    pub fn setting(self) -> Result<Setting, Fault> {
         Ok(match self {
             Layer::Absent => Setting::Absent,
             Layer::Widen { bits } => Setting::Widen(Bits::new(narrow(bits))?),

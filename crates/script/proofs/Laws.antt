@@ -1,6 +1,6 @@
 -- A script is accepted exactly when it is the text of lawful lines, which it is read as. Assumes nothing.
 use Rattle.std.proofs.Common.{◌≡◌, ℕ, zero, suc, ◌+◌, ◌^◌, ◌<◌, Bool, true, false, cond, ◌&&◌, ltb, leb, List, [], ◌∷◌, ◌++◌, length, get_or, set, Ok, count_by, sym, refl, ap, ◌∙◌, subst, arith}
-use Rattle.std.specs.List.{AllByRecursion as All}
+use Rattle.std.specs.List.{AllByRecursion}
 use Rattle.std.proofs.lemmas.List.{get_or-set_other}
 use Rattle.std.proofs.lemmas.List.Sums.{sum_by-set}
 use Rattle.std.proofs.lemmas.Bool.{and_parts, leb-true, ltb-true, true≢false}
@@ -59,18 +59,18 @@ still_other free s j e same = true≢false (sym e ∙ ap (λ k. get_or (set free
 still_free : (free : List Bool) (s j : ℕ) → get_or (set free s false) j false ≡ true → get_or free j false ≡ true
 still_free free s j e = sym (get_or-set_other free s j false false (still_other free s j e)) ∙ e
 
-pub lawful_later : (free : List Bool) (s : ℕ) (ls : List Line) → All (Lawful free) ls → All (λ m. m.slot ≡ s → ⊥) ls → All (Lawful (set free s false)) ls
+pub lawful_later : (free : List Bool) (s : ℕ) (ls : List Line) → AllByRecursion (Lawful free) ls → AllByRecursion (λ m. m.slot ≡ s → ⊥) ls → AllByRecursion (Lawful (set free s false)) ls
 lawful_later free s [] h d = tt
 lawful_later free s (l ∷ ls) h d =
     ((h.0.0, get_or-set_other free s l.slot false false d.0 ∙ h.0.1, h.0.2), lawful_later free s ls h.1 d.1)
 
-lawful_before : (free : List Bool) (s : ℕ) (ls : List Line) → All (Lawful (set free s false)) ls → All (Lawful free) ls × All (λ m. m.slot ≡ s → ⊥) ls
+lawful_before : (free : List Bool) (s : ℕ) (ls : List Line) → AllByRecursion (Lawful (set free s false)) ls → AllByRecursion (Lawful free) ls × AllByRecursion (λ m. m.slot ≡ s → ⊥) ls
 lawful_before free s [] h = (tt, tt)
 lawful_before free s (l ∷ ls) h =
     let more = lawful_before free s ls h.1 in
     (((h.0.0, still_free free s l.slot h.0.1, h.0.2), more.0), (still_other free s l.slot h.0.1, more.1))
 
-script_forth : (ls : List Line) (n at : ℕ) (free : List Bool) → All (Lawful free) ls → Different ls → script_from n at free (cut 10 (script_text ls)) ≡ Ok ls
+script_forth : (ls : List Line) (n at : ℕ) (free : List Bool) → AllByRecursion (Lawful free) ls → Different ls → script_from n at free (cut 10 (script_text ls)) ≡ Ok ls
 script_forth [] n at free h d = refl
 script_forth (l ∷ ls) n at free h d =
     let s = small free l h.0 in
@@ -84,7 +84,7 @@ script_forth (l ∷ ls) n at free h d =
 -- what is accepted
 pub record Written (free : List Bool) (text : List ℕ) (ls : List Line) : Type 0 where
   pub is : text ≡ script_text ls
-  pub lawful : All (Lawful free) ls
+  pub lawful : AllByRecursion (Lawful free) ls
   pub different : Different ls
 
 last_back : (n at : ℕ) (free : List Bool) (p : List ℕ) (ls : List Line) → last_piece n at free p ≡ Ok ls → Written free p ls

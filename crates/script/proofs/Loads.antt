@@ -1,6 +1,6 @@
 -- Setting up one line of a script that is being loaded. Assumes nothing.
 use Rattle.std.proofs.Common.{◌≡◌, ℕ, zero, suc, ◌+◌, ◌<◌, Bool, true, false, List, [], ◌∷◌, get_or, set, Ok, Result, sym, refl, ap, ◌∙◌, subst, arith}
-use Rattle.std.specs.List.{AllByRecursion as All}
+use Rattle.std.specs.List.{AllByRecursion}
 use Rattle.std.proofs.lemmas.List.{map-set}
 use Rattle.std.proofs.lemmas.Bool.{cond-true, cond-false, le-ltb, not-true}
 use Rattle.fault.specs.declared.Fault.{Fault}
@@ -39,7 +39,7 @@ read_for l free text r s slots answer ok = ap (λ f. script_of f text) (sym slot
 -- the lines still to be set up in a log, to make the whole of it
 pub record Ready {X : Type 0} (whole l : Log X) (ls : List Line) : Type 0 where
   pub same : whole ≡ set_up_all l ls
-  pub lawful : All (Lawful (free_slots l.slots)) ls
+  pub lawful : AllByRecursion (Lawful (free_slots l.slots)) ls
   pub different : Different ls
 
 pub ready_more : {X : Type 0} (whole l l' : Log X) (line : Line) (ls : List Line) (r : Result ℕ Fault)
@@ -50,7 +50,7 @@ ready_more whole l l' line ls r done h =
     let ok : r ≡ Ok (l.moment + line.delay) = done.answer ∙ set_up_lawful l line h.lawful.0 in
     let is : l' ≡ stood = done.after ∙ ap (after_set_up l line.slot line.job false) ok in
     let frees : free_slots stood.slots ≡ set (free_slots l.slots) line.slot false = map-set is_free l.slots line.slot (Standing (l.moment + line.delay) line.job false) in
-    let F : List Bool → Type 0 = λ free. All (Lawful free) ls in
+    let F : List Bool → Type 0 = λ free. AllByRecursion (Lawful free) ls in
     let R : Log _ → Type 0 = λ m. Ready whole m ls in
     subst R (sym is) (record {
       same = h.same;

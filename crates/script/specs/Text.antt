@@ -1,7 +1,7 @@
 -- The text of lines, and which lines may stand in a script together.
 -- Assumes nothing.
 use Rattle.std.specs.Prelude.{◌≡◌, ℕ, Bool, List, [], ◌∷◌, ◌++◌, Ok, ◌≢◌}
-use Rattle.std.specs.List.{AllByRecursion as All}
+use Rattle.std.specs.List.{AllByRecursion}
 use Rattle.line.specs.declared.line.Line.{Line}
 use Rattle.line.specs.Text.{line_text, Lawful}
 use Rattle.script.specs.Script.{script_of}
@@ -14,12 +14,12 @@ script_text (l ∷ ls) = line_text l ++ (10 ∷ script_text ls)
 -- no two lines have the same slot
 abbrev pub Different : List Line → Type 0
 Different [] = Unit {0}
-Different (l ∷ ls) = All (λ m. m.slot ≢ l.slot) ls × Different ls
+Different (l ∷ ls) = AllByRecursion (λ m. m.slot ≢ l.slot) ls × Different ls
 
 -- these lines, with these slots free at the start, have this text
 pub record Writes (free : List Bool) (ls : List Line) (text : List ℕ) : Type 0 where
   pub is : text ≡ script_text ls
-  pub lawful : All (Lawful free) ls
+  pub lawful : AllByRecursion (Lawful free) ls
   pub different : Different ls
 
 -- a script is accepted exactly when it is the text of such lines, and these are what it is read as

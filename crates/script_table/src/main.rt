@@ -6,7 +6,7 @@ ghost use Rattle.std.specs.Prelude.{◌≡◌, length};
 
 use listing::listing;
 use std::io;
-use std::io::{BufRead, BufReader, Write};
+use std::io::{BufRead, Write};
 
 // No listing is longer.
 const PAGE: usize = 1024;
@@ -15,7 +15,7 @@ const PAGE: usize = 1024;
 const CUT: usize = 60;
 
 fn main(rt: HostRuntime) -> io::Result<()> {
-    let mut input = BufReader::new(rt.alloc(), rt.stdin())?;
+    let mut input = rt.reader();
     let mut line = Vec::new(rt.alloc());
     for _ in 0..u64::MAX {
         line.clear();

@@ -1,7 +1,7 @@
 -- Cutting a text at a byte, and joining the pieces again. Assumes nothing.
 use Rattle.std.proofs.Common.{◌≡◌, ℕ, suc, ◌+◌, ◌-◌, ◌<◌, ◌≤◌, Bool, true, false, cond, not, eqb, List, [], ◌∷◌, ◌++◌, length, take, drop, Some, sym, refl, ap, ◌∙◌, add-one, one-add, arith, length-drop}
 use native.Mathlib.Nat.{sub-zero}
-use Rattle.std.specs.List.{prefix_len, AllByRecursion as All}
+use Rattle.std.specs.List.{prefix_len, AllByRecursion}
 use Rattle.std.proofs.lemmas.List.{take_all}
 use Rattle.std.proofs.lemmas.Bool.{eqb-true}
 use Rattle.words.specs.Cuts.{cut, other, joined_by}
@@ -10,7 +10,7 @@ use Rattle.words.specs.Letters.{letter}
 
 -- no byte is c
 abbrev pub Lacks : ℕ → List ℕ → Type 0
-Lacks c bs = All (λ b. eqb b c ≡ false) bs
+Lacks c bs = AllByRecursion (λ b. eqb b c ≡ false) bs
 
 -- the words of a line are its pieces between spaces
 pub words_cut : (bs : List ℕ) → words_of bs ≡ cut 32 bs
@@ -58,7 +58,7 @@ module _ (c : ℕ) where
   cut_front (b ∷ bs) rest h same = rw (h.0, cut_front bs rest h.1 same)
 
 -- pieces that lack the byte at which they are joined
-pub cut_joined : (c : ℕ) (p : List ℕ) (ps : List (List ℕ)) → eqb c c ≡ true → All (Lacks c) (p ∷ ps) → cut c (joined_by c (p ∷ ps)) ≡ p ∷ ps
+pub cut_joined : (c : ℕ) (p : List ℕ) (ps : List (List ℕ)) → eqb c c ≡ true → AllByRecursion (Lacks c) (p ∷ ps) → cut c (joined_by c (p ∷ ps)) ≡ p ∷ ps
 cut_joined c p [] same h = cut_whole c p h.0
 cut_joined c p (q ∷ qs) same h = cut_front c p (joined_by c (q ∷ qs)) h.0 same ∙ ap (λ xs. p ∷ xs) (cut_joined c q qs same h.1)
 

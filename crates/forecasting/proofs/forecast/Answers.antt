@@ -1,5 +1,5 @@
 use Rattle.std.proofs.Common.{◌≡◌, ℕ, ◌+◌, ◌*◌, ◌^◌, ◌<◌, ◌≤◌, min, List, map, length, Ok, Result, sym, ap, ◌∙◌, subst, arith, length-take}
-use Rattle.std.specs.List.{AllByRecursion as All}
+use Rattle.std.specs.List.{AllByRecursion}
 use Rattle.std.proofs.ByRecursion.{All-weaker}
 use Rattle.fault.specs.declared.Fault.{Fault}
 use Rattle.queue.specs.declared.dues.Due.{Due}
@@ -22,7 +22,7 @@ use Rattle.forecasting.proofs.forecast.Goals.{After-room-most}
 read_ok : (c : After-room-most) → script_of all_free c.args.script.now ≡ Ok (lines_of c.in_ok-loaded.loaded)
 read_ok c = sym c.read.ensures.answer ∙ ap read_as c.in_ok-loaded.was
 
-lawful : (c : After-room-most) → All (Lawful all_free) (lines_of c.in_ok-loaded.loaded)
+lawful : (c : After-room-most) → AllByRecursion (Lawful all_free) (lines_of c.in_ok-loaded.loaded)
 lawful c = ((law all_free c.args.script.now).written (lines_of c.in_ok-loaded.loaded) (read_ok c)).lawful
 
 plan_is : (c : After-room-most) → waiting c.of-plan.result ≡ in_order pending_order (map (pending c.args.start.ticks) (lines_of c.in_ok-loaded.loaded))
@@ -59,7 +59,7 @@ of-plan-requires c =
     let early : c.args.start.ticks < 2 ^ 62 = c.args.start.early in
     let same : c.ticks.result ≡ c.args.start.ticks = c.ticks.ensures in
     let most : loaded.count ≤ 32 = loaded.within in
-    let P : List Line → Type 0 = λ ls. All (λ l. c.ticks.result + l.delay < 2 ^ 64) ls in
+    let P : List Line → Type 0 = λ ls. AllByRecursion (λ l. c.ticks.result + l.delay < 2 ^ 64) ls in
     record {
       few = rw c.lines.ensures (simp length-take (omega arith));
       early = subst P (sym c.lines.ensures) (All-weaker (Lawful all_free) (λ l. c.ticks.result + l.delay < 2 ^ 64) (λ l h. omega (arith, line_delay all_free l h)) (lines_of loaded) all);
@@ -67,7 +67,7 @@ of-plan-requires c =
 
 pub loop-i-init : goal.loop-i-init
 loop-i-init c =
-    let W : List _ → Type 0 = λ w. All (Calm (2 ^ 62 + 2 ^ 40)) w in
+    let W : List _ → Type 0 = λ w. AllByRecursion (Calm (2 ^ 62 + 2 ^ 40)) w in
     sofar_none c.room-most.result (waiting c.of-plan.result) c.args.moments.now c.args.slots.now
     (subst W (sym (plan_is c)) (all_in_order (Calm (2 ^ 62 + 2 ^ 40)) _ (calm_lines all_free c.args.start.ticks (lines_of c.in_ok-loaded.loaded) c.args.start.early (lawful c))))
 

@@ -1,6 +1,6 @@
 // Planning lines, and taking firings from a plan.
 ghost use Rattle.std.specs.Prelude.{◌≡◌, ◌+◌, ◌-◌, ◌^◌, ◌<◌, ◌≤◌, [], map, length, is_some, if◌then◌else◌};
-ghost use Rattle.std.specs.List.{AllByRecursion as All};
+ghost use Rattle.std.specs.List.{AllByRecursion};
 ghost use Rattle.queue.specs.Order.{inserted, in_order};
 ghost use Rattle.queue.specs.Row.{first, later};
 ghost use Rattle.forecasting.specs.Pending.{pending, pending_order, first_due, after_first};
@@ -47,7 +47,7 @@ impl Plan {
     // The jobs of lines that are loaded at `start`.
     pub(crate) fn of(lines: &[Line], start: u64) -> Plan
         requires few { length lines.now ≤ 32 }
-        requires early { All (λ l. start + l.delay < 2 ^ 64) lines.now }
+        requires early { AllByRecursion (λ l. start + l.delay < 2 ^ 64) lines.now }
         ensures { waiting result ≡ in_order pending_order (map (pending start) lines.now) }
     {
         let mut plan = Plan::new();
@@ -59,7 +59,7 @@ impl Plan {
 
     // The next firing, after which its job waits for the one that follows.
     pub(crate) fn next(&mut self) -> Option<Due>
-        requires { All (Calm (2 ^ 63)) (waiting self.old) }
+        requires { AllByRecursion (Calm (2 ^ 63)) (waiting self.old) }
         ensures answer { result ≡ first_due (waiting self.old) }
         ensures after { waiting self.new ≡ after_first (waiting self.old) }
     {

@@ -1,5 +1,5 @@
 use Rattle.std.proofs.Common.{◌≡◌, ◌+◌, List, [], get_or, drop, Ok, sym, refl, ap, ◌∙◌, subst}
-use Rattle.std.specs.List.{AllByRecursion as All}
+use Rattle.std.specs.List.{AllByRecursion}
 use Rattle.std.proofs.lemmas.List.{drop_all, drop_more}
 use Rattle.logger.specs.State.{view}
 use Rattle.jobs.specs.declared.Action.TheVariants.{Read}
@@ -26,7 +26,7 @@ loop-line-init g c =
     read_for l c.free_slots-free.result c.args.script.now c.read.result c.in_ok-loaded.loaded
     (c.free_slots-free.ensures ∙ ap free_slots c.slots.ensures.table) c.read.ensures.answer c.in_ok-loaded.was in
     let w = (law free c.args.script.now).written loaded ok in
-    let W : List Line → Type 0 = λ ls. All (Lawful free) ls in
+    let W : List Line → Type 0 = λ ls. AllByRecursion (Lawful free) ls in
     record {
       same = refl;
       lawful = subst W (sym c.lines-line-items.ensures) w.lawful;
