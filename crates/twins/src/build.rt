@@ -53,7 +53,7 @@ impl<A: Alarm> Build<A> {
         self.longest
     }
 
-    fn empty(&mut self) -> Result<(), Halt> {
+    pub fn empty(&mut self) -> Result<(), Halt> {
         for _ in 0..u64::MAX {
             match self.logger.next() {
                 None => break,

@@ -79,7 +79,7 @@ impl<U: Alarm<Sample = Word>, D: Alarm<Sample = Count>> Twins<U, D> {
     }
 
     // Sets the shared job up in both, between other jobs of each.
-    fn begin(&mut self, rt: &HostRuntime) -> Result<(), Halt> {
+    pub fn begin(&mut self, rt: &HostRuntime) -> Result<(), Halt> {
         self.show_start(rt)?;
         begin_up(&mut self.up)?;
         begin_down(&mut self.down)?;
@@ -92,7 +92,7 @@ impl<U: Alarm<Sample = Word>, D: Alarm<Sample = Count>> Twins<U, D> {
         println!(rt; "start {START}, alike {alike}")
     }
 
-    fn rows(&mut self, rt: &HostRuntime, rows: &[Samples]) -> Result<(), Halt> {
+    pub fn rows(&mut self, rt: &HostRuntime, rows: &[Samples]) -> Result<(), Halt> {
         for samples in rows {
             let moment = self.serve(*samples)?;
             self.show(rt, moment)?;
@@ -128,7 +128,7 @@ impl<U: Alarm<Sample = Word>, D: Alarm<Sample = Count>> Twins<U, D> {
     }
 
     // Rows with an errand in the first build.
-    fn rows_with_errand(&mut self, rt: &HostRuntime, rows: &[Samples]) -> Result<(), Halt> {
+    pub fn rows_with_errand(&mut self, rt: &HostRuntime, rows: &[Samples]) -> Result<(), Halt> {
         let ticket = self.up.errand(7, 8, Action::Read { channel: 5 })?;
         let shown = self.rows(rt, rows);
         // before anything can fail, since a ticket cannot be let go
@@ -146,7 +146,7 @@ impl<U: Alarm<Sample = Word>, D: Alarm<Sample = Count>> Twins<U, D> {
     }
 
     // Ends the job in both, and says whether it fired alike.
-    fn finish(&mut self, rt: &HostRuntime) -> Result<(), Halt> {
+    pub fn finish(&mut self, rt: &HostRuntime) -> Result<(), Halt> {
         let up = self.up.call_off(SHARED_SLOT)?;
         let down = self.down.call_off(SHARED_SLOT)?;
         show_pair(rt, "called off", up, down)?;
