@@ -100,9 +100,8 @@ impl Appointment {
 
     // The clock gained ticks from this reading on.
     pub fn take(&mut self, width: Width, from: u64, gained: u64)
-        requires { Sound width.bits self.old }
         ensures after { self.new ≡ after_take width.bits from gained self.old }
-        ensures sound { Sound width.bits self.new }
+        ensures sound { Sound width.bits self.old → Sound width.bits self.new }
     {
         let gain = Gain {
             width,
@@ -121,10 +120,9 @@ impl Appointment {
         reference: u64,
         delay: u64,
     ) -> Result<(), Fault>
-        requires { Sound width.bits self.old }
         ensures answer { result ≡ told (setting width.bits reading reference delay self.old) }
         ensures after { self.new ≡ left_by (setting width.bits reading reference delay self.old) self.old }
-        ensures sound { Sound width.bits self.new }
+        ensures sound { Sound width.bits self.old → Sound width.bits self.new }
     {
         let turn = width.turn();
         if reference >= turn || delay >= turn {
