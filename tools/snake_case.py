@@ -1,10 +1,12 @@
 #!/usr/bin/env python3
 """Gives the repository's own definitions and lemmas names in snake case: `lead-of` becomes `lead_of`.
 
-usage: python3 tools/snake_case.py       at the top of the repository, once, after port.py
+usage: python3 tools/snake_case.py            at the top of the repository, once, after port.py
+       python3 tools/snake_case.py --look     writes nothing, and lists the names
 
 A name counts as own where an .antt file of specs/ or proofs/ declares it, and not as a goal that the check names.
-Code, strings, comments and the goals' names stay. It stops, and writes nothing, where two names would fall together.
+Code, strings, comments and the goals' names stay. It stops, and writes nothing, where two turned names would be one.
+A line `look:` names one that meets a name of the code, as a definition that is called like the function that it is of.
 """
 import collections
 import os
