@@ -1,5 +1,21 @@
-// What a job is; the state of the slot that it stands in; and what a logger answers of it.
+// What a job is, and its limits; the state of the slot that it stands in; and what a logger answers of it.
 #![tactic(auto)]
+
+ghost use Rattle.std.specs.Prelude.{◌≡◌, Some};
+ghost use Rattle.jobs.specs.Jobs.{after_firing, is_free};
+ghost use Rattle.jobs.specs.Text.{action_text};
+
+use std::fmt;
+
+// The slots are numbered from 0 up to this.
+pub const LAST_SLOT: usize = 31;
+
+// The largest period and delay.
+pub const MOST_TICKS: u64 = 1_099_511_627_775;
+
+pub const MOST_FIRINGS: u32 = 65_535;
+
+pub const MOST_CHANNEL: u8 = 15;
 
 // How often a job fires, and how many ticks apart.
 #[derive(Clone, Copy, PartialEq, Eq, Debug)]
@@ -30,6 +46,42 @@ pub enum Slot {
     Standing { due: u64, job: Job, errand: bool },
     // an errand that fired at this due moment, and waits for its ticket
     Waiting { due: u64 },
+}
+
+impl Kind {
+    // What a firing makes of it: the ticks to the next due moment, and the kind that then stands.
+    pub fn after_firing(self) -> Option<(u64, Kind)>
+        ensures { result ≡ after_firing self }
+    {
+        match self {
+            Kind::Every { period } => Some((period, self)),
+            Kind::Burst { count, period } if count > 1 => {
+                let count = count - 1;
+                Some((period, Kind::Burst { count, period }))
+            }
+            Kind::Once | Kind::Burst { .. } => None,
+        }
+    }
+}
+
+impl Slot {
+    pub fn is_free(&self) -> bool
+        ensures { result ≡ is_free self.now }
+    {
+        matches!(*self, Slot::Free)
+    }
+}
+
+// As a script writes it: `read CHANNEL` or `mark`.
+impl fmt::Display for Action {
+    ghost output = { λ a. Some (action_text a) };
+
+    fn fmt<W: fmt::Write>(&self, f: &mut fmt::Formatter<W>) -> fmt::Result {
+        match *self {
+            Action::Read { channel } => write!(f, "read {channel}"),
+            Action::Mark => write!(f, "mark"),
+        }
+    }
 }
 
 // What `next` answers: the slot that fired, the moment it was due, the moment it was served, and what to do.
