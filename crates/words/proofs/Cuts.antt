@@ -1,13 +1,13 @@
--- Where the first piece of a text ends, and what is read after it. Assumes nothing.
-use Rattle.std.proofs.Common.{◌≡◌, ℕ, ◌+◌, ◌-◌, ◌≤◌, Bool, not, eqb, List, [], ◌∷◌, length, take, drop, Option, Some, None, sym, ap, ◌∙◌, ⊎_elim, arith, length-drop}
+-- The first piece of a text, the words behind it, and pieces that are joined again. Assumes nothing.
+use Rattle.std.proofs.Common.{◌≡◌, ℕ, ◌+◌, ◌-◌, ◌<◌, ◌≤◌, Bool, false, not, eqb, List, [], ◌∷◌, length, take, drop, Option, Some, None, sym, refl, ap, ◌∙◌, ⊎_elim, arith, length-drop}
 use denote.Ref.{Bor}
-use Rattle.std.specs.List.{position, position_or_len}
+use Rattle.std.specs.List.{All, AllByRecursion, join_with_byte, position, position_or_len}
 use Rattle.std.specs.Option.{unwrap_or}
 use Rattle.std.specs.Slice.{IsGetRangeResult}
 use Rattle.std.proofs.lemmas.List.{take_all}
-use Rattle.std.proofs.lemmas.List.Splits.{slice_split_none, slice_split_first}
+use Rattle.std.proofs.lemmas.List.Splits.{slice_split_none, slice_split_first, slice_split_at, length-slice_split}
 use Rattle.std.proofs.lemmas.List.Sums.{prefix_len-le-length, prefix_len_passes}
-use Rattle.std.proofs.lemmas.Bool.{not-true}
+use Rattle.std.proofs.lemmas.Bool.{not-true, eq-eqb}
 use Rattle.std.proofs.lemmas.Bool.Decides.{nat_tests}
 use Rattle.words.specs.Cuts.{cut}
 use Rattle.words.specs.Words.{words_of, words_left}
@@ -29,3 +29,21 @@ words_more line end (Some rest) is got =
     slice_split_first (λ b. eqb b 32) line 0 (omega arith)
     ∙ ap (λ k. take k line ∷ cut 32 (drop (k + 1) line)) (sym is)
     ∙ ap (λ t. take end line ∷ cut 32 t) (sym (got.0.2 ∙ whole))
+
+-- no byte is c
+abbrev pub Lacks : ℕ → List ℕ → Type 0
+Lacks c bs = All (λ b. eqb b c ≡ false) bs
+
+-- pieces that lack the byte at which they are joined
+pub cut_joined : (c : ℕ) (p : List ℕ) (ps : List (List ℕ)) → AllByRecursion (Lacks c) (p ∷ ps) → cut c (join_with_byte c (p ∷ ps)) ≡ p ∷ ps
+cut_joined c p [] h = slice_split_none (λ b. eqb b c) p h.0
+cut_joined c p (q ∷ qs) h =
+    slice_split_at (λ b. eqb b c) p c (join_with_byte c (q ∷ qs)) h.0 (eq-eqb c c refl) ∙ ap (λ xs. p ∷ xs) (cut_joined c q qs h.1)
+
+-- there is always a piece
+pub cut_some : (c : ℕ) (bs : List ℕ) → (p : List ℕ) × (ps : List (List ℕ)) × (cut c bs ≡ p ∷ ps)
+cut_some c bs = first (cut c bs) (omega (arith, length-slice_split (λ b. eqb b c) bs))
+  where
+    first : (ps : List (List ℕ)) → 0 < length ps → (q : List ℕ) × (qs : List (List ℕ)) × (ps ≡ q ∷ qs)
+    first [] h = absurd (omega arith)
+    first (p ∷ ps) h = (p, ps, refl)
