@@ -1,4 +1,4 @@
-// The text of a listing, piece by piece: since no clause says that a `write!` succeeds.
+// The text of a listing, piece by piece, since no clause says that a `write!` succeeds.
 ghost use Rattle.std.specs.Prelude.{◌≡◌, ◌+◌, ◌≤◌, [], ◌∷◌, ◌++◌, length};
 ghost use Rattle.fault.specs.Text.{place_text, where_text, fault_text};
 ghost use Rattle.listing.specs.Listing.{row_text, rows_text};
