@@ -17,6 +17,6 @@ pub returns : goal.returns
 returns g c =
     let s = c.args.self.now in
     let slot = slot_of (view g.A.Clock.meaning s) c.args.slot in
-    let fits = fits_at s.table.slots c.args.slot s.limits in
+    let fits = fits_at s.table c.args.slot s.limits in
     let told = within s.moment.ticks c.args.slot slot c.state.result c.fire.result s.moment.early fits c.requires c.state.ensures c.fire.ensures in
     record { answer = told; limits = ap (λ r. slot_fits r.1) told ∙ fits_fired slot fits }
