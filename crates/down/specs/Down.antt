@@ -1,12 +1,16 @@
 -- The down-counter: it counts from its reload down to 0 and starts again at the reload; its sample is the raw count.
 -- Assumes nothing.
-use Rattle.std.specs.Prelude.{ℕ, ◌+◌, ◌-◌, ◌%◌, ◌^◌, cond, ◌&&◌, Ok, Err, Result, nat_le, nat_lt}
+use Rattle.std.specs.Prelude.{ℕ, ◌+◌, ◌-◌, ◌%◌, ◌^◌, ◌<◌, cond, ◌&&◌, Ok, Err, Result, OkIff, nat_le, nat_lt}
 use Rattle.fault.specs.declared.Fault.{Fault}
 use Rattle.fault.specs.Table.{stray_sample, bad_device}
 use Rattle.clock.specs.Meaning.{Meaning, total}
 use Rattle.clock.specs.declared.appointment.Appointment.{Appointment}
 use Rattle.clock.specs.declared.appointment.Appointment.TheVariants.{Idle}
 use Rattle.down.specs.declared.down.Count.{Count}
+
+-- a number of at most 32 bits is a raw sample
+abbrev pub IsCount : {E : Type 0} → ℕ → Result Count E → Type 0
+IsCount n r = OkIff r (n < 2 ^ 32) (record { 0 = n })
 
 -- (a - s) mod n, for any s
 abbrev pub back : ℕ → ℕ → ℕ → ℕ

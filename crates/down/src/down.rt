@@ -2,7 +2,7 @@
 ghost use Rattle.std.specs.Prelude.{◌≡◌, ◌^◌, ◌<◌, ◌≤◌};
 ghost use Rattle.clock.specs.Appointment.{Sound};
 ghost use Rattle.clock.specs.Calls.{Accepted};
-ghost use Rattle.down.specs.Down.{down_meaning, down_made, fallen};
+ghost use Rattle.down.specs.Down.{IsCount, down_meaning, down_made, fallen};
 ghost use Rattle.clock.specs.Hold.{wait_for};
 ghost use Rattle.clock.specs.Making.{seen};
 ghost use Rattle.down.specs.DownCounters.{down_lawful};
@@ -12,10 +12,22 @@ use clock::alarm::{Alarm, Clock};
 use clock::appointment::Appointment;
 use clock::width::Width;
 use fault::{Cause, Fault};
+use std::num::TryFromIntError;
 
 // A raw count of the counter's register.
 #[derive(Clone, Copy, PartialEq, Eq, Debug)]
 pub struct Count(pub u32);
+
+// A raw number, if it has no more bits than the register.
+impl TryFrom<u64> for Count {
+    type Error = TryFromIntError;
+
+    ghost try_from_gives = { IsCount };
+
+    fn try_from(number: u64) -> Result<Count, TryFromIntError> {
+        Ok(Count(u32::try_from(number)?))
+    }
+}
 
 // The counts repeat after a round, so the reading is kept apart from them. It grows as the count falls.
 const WIDTH: Width = Width { bits: 32 };

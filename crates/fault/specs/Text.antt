@@ -16,13 +16,17 @@ part_text Script = codes "script"
 part_text Book = codes "book"
 part_text Lead = codes "lead"
 
--- the part and the place
+abbrev pub place_text : Place → List ℕ
+place_text (Tag tag) = decimal tag
+place_text Nought = codes "0"
+place_text (Slot slot) = decimal slot
+place_text (Line line byte) = codes "line " ++ (decimal line ++ (codes " byte " ++ decimal byte))
+place_text (Length length) = decimal length
+
+-- the part and the place; a line of a script needs no part beside it
 abbrev pub where_text : Part → Place → List ℕ
-where_text part (Tag tag) = part_text part ++ (codes " " ++ decimal tag)
-where_text part Nought = part_text part ++ codes " 0"
-where_text part (Slot slot) = part_text part ++ (codes " " ++ decimal slot)
-where_text part (Line line byte) = codes "line " ++ (decimal line ++ (codes " byte " ++ decimal byte))
-where_text part (Length length) = part_text part ++ (codes " " ++ decimal length)
+where_text _ (Line line byte) = place_text (Line line byte)
+where_text part place = part_text part ++ (codes " " ++ place_text place)
 
 abbrev pub fault_text : Fault → List ℕ
 fault_text f = codes "refused " ++ (decimal (number_of f.cause) ++ (codes " " ++ where_text f.part f.place))

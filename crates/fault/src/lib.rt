@@ -3,7 +3,7 @@
 
 ghost use Rattle.std.specs.Prelude.{◌≡◌, Some};
 ghost use Rattle.fault.specs.Table.{number_of, in_device, in_alarm, in_logger, in_slot, in_script, in_book, in_lead};
-ghost use Rattle.fault.specs.Text.{part_text, fault_text};
+ghost use Rattle.fault.specs.Text.{part_text, place_text, fault_text};
 
 use std::fmt;
 
@@ -79,6 +79,7 @@ impl Cause {
     }
 }
 
+// A way in for each part, so that no caller pairs a part with a place that it does not have.
 impl Fault {
     fn at(cause: Cause, part: Part, place: Place) -> Fault
         ensures { result ≡ record { cause = cause; part = part; place = place } }
@@ -145,19 +146,29 @@ impl fmt::Display for Part {
     }
 }
 
+impl fmt::Display for Place {
+    ghost output = { λ p. Some (place_text p) };
+
+    fn fmt<W: fmt::Write>(&self, f: &mut fmt::Formatter<W>) -> fmt::Result {
+        match *self {
+            Place::Nought => write!(f, "0"),
+            Place::Tag(tag) => write!(f, "{tag}"),
+            Place::Slot(number) | Place::Length(number) => write!(f, "{number}"),
+            Place::Line { line, byte } => write!(f, "line {line} byte {byte}"),
+        }
+    }
+}
+
 // `refused NUMBER PART PLACE`, and for a script `refused NUMBER line L byte B`.
 impl fmt::Display for Fault {
     ghost output = { λ x. Some (fault_text x) };
 
     fn fmt<W: fmt::Write>(&self, f: &mut fmt::Formatter<W>) -> fmt::Result {
         let number = self.cause.number();
-        let part = self.part;
-        match self.place {
-            Place::Tag(tag) => write!(f, "refused {number} {part} {tag}"),
-            Place::Nought => write!(f, "refused {number} {part} 0"),
-            Place::Slot(slot) => write!(f, "refused {number} {part} {slot}"),
-            Place::Line { line, byte } => write!(f, "refused {number} line {line} byte {byte}"),
-            Place::Length(length) => write!(f, "refused {number} {part} {length}"),
+        let Fault { part, place, .. } = *self;
+        match place {
+            Place::Line { .. } => write!(f, "refused {number} {place}"),
+            _ => write!(f, "refused {number} {part} {place}"),
         }
     }
 }

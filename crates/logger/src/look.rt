@@ -23,7 +23,7 @@ impl<A> Logger<A> {
 
     // The state of one slot.
     pub fn slot(&self, slot: usize) -> Result<Slot, Fault>
-        ensures { result ≡ look_answer self.now.table.slots slot }
+        ensures { result ≡ look_answer self.now.table slot }
     {
         if slot > LAST_SLOT {
             return Err(Fault::in_slot(Cause::NoSlot, slot));
@@ -33,7 +33,7 @@ impl<A> Logger<A> {
 
     // The whole table, slot 0 first.
     pub fn slots(&self) -> &[Slot; 32]
-        ensures table { result.now ≡ self.now.table.slots }
+        ensures table { result.now ≡ self.now.table }
         ensures size { length result.now ≡ 32 }
     {
         self.table.slots()

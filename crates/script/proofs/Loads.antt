@@ -4,7 +4,8 @@ use Rattle.std.specs.List.{AllByRecursion}
 use Rattle.std.proofs.lemmas.List.{map-set}
 use Rattle.std.proofs.lemmas.Bool.{cond-true, cond-false, le-ltb, not-true}
 use Rattle.fault.specs.declared.Fault.{Fault}
-use Rattle.slots.specs.Slots.{taken, set_up_slot}
+use Rattle.jobs.specs.Jobs.{taken}
+use Rattle.slots.specs.Slots.{set_up_slot}
 use Rattle.logger.specs.State.{Log, slot_of, with_slot}
 use Rattle.logger.specs.Calls.{after_set_up, SetUp}
 use Rattle.jobs.specs.declared.Slot.{Slot}

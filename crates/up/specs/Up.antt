@@ -1,6 +1,6 @@
 -- The up-counter of w bits: its sample is the raw reading, and it gains one tick with each true tick.
 -- Assumes nothing.
-use Rattle.std.specs.Prelude.{ℕ, ◌+◌, ◌^◌, cond, ◌&&◌, Ok, Err, Result, nat_le, nat_lt}
+use Rattle.std.specs.Prelude.{ℕ, ◌+◌, ◌^◌, ◌<◌, cond, ◌&&◌, Ok, Err, Result, OkIff, nat_le, nat_lt}
 use Rattle.fault.specs.declared.Fault.{Fault}
 use Rattle.fault.specs.Table.{stray_sample, bad_device}
 use Rattle.clock.specs.Wrap.{plus}
@@ -8,6 +8,10 @@ use Rattle.clock.specs.Meaning.{Meaning, total}
 use Rattle.clock.specs.declared.appointment.Appointment.{Appointment}
 use Rattle.clock.specs.declared.appointment.Appointment.TheVariants.{Idle}
 use Rattle.up.specs.declared.up.Word.{Word}
+
+-- a number of at most 32 bits is a raw sample
+abbrev pub IsWord : {E : Type 0} → ℕ → Result Word E → Type 0
+IsWord n r = OkIff r (n < 2 ^ 32) (record { 0 = n })
 
 abbrev pub up_meaning : ℕ → ℕ → ℕ → Meaning Word
 up_meaning w reading tag = record {

@@ -5,7 +5,7 @@ ghost use Rattle.clock.specs.Calls.{Accepted};
 ghost use Rattle.clock.specs.Hold.{wait_for};
 ghost use Rattle.clock.specs.Making.{seen};
 ghost use Rattle.clock.specs.Wrap.{minus};
-ghost use Rattle.up.specs.Up.{up_meaning, up_made};
+ghost use Rattle.up.specs.Up.{IsWord, up_meaning, up_made};
 ghost use Rattle.up.specs.UpCounters.{up_lawful};
 ghost use Rattle.std.proofs.Common.{rules, arith};
 
@@ -13,10 +13,22 @@ use clock::alarm::{Alarm, Clock};
 use clock::appointment::Appointment;
 use clock::width::Width;
 use fault::{Cause, Fault};
+use std::num::TryFromIntError;
 
 // A raw reading of the counter's register.
 #[derive(Clone, Copy, PartialEq, Eq, Debug)]
 pub struct Word(pub u32);
+
+// A raw number, if it has no more bits than the register.
+impl TryFrom<u64> for Word {
+    type Error = TryFromIntError;
+
+    ghost try_from_gives = { IsWord };
+
+    fn try_from(number: u64) -> Result<Word, TryFromIntError> {
+        Ok(Word(u32::try_from(number)?))
+    }
+}
 
 #[derive(Drop)]
 pub struct UpCounter {

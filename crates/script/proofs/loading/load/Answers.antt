@@ -20,7 +20,7 @@ blank = record { slot = 0; delay = 0; job = record { kind = Once; action = Read 
 pub loop-line-init : goal.loop-line-init
 loop-line-init g c =
     let l = view g.A.Clock.meaning c.args.logger.now in
-    let free = free_slots c.args.logger.now.table.slots in
+    let free = free_slots c.args.logger.now.table in
     let loaded = lines_of c.in_ok-loaded.loaded in
     let ok : lines_for l c.args.script.now ≡ Ok loaded =
     read_for l c.free_slots-free.result c.args.script.now c.read.result c.in_ok-loaded.loaded
