@@ -2,14 +2,14 @@
 use Rattle.std.proofs.Common.{◌≡◌, ℕ, zero, suc, ◌+◌, ◌<◌, Bool, true, false, List, [], ◌∷◌, get_or, set, Ok, Result, sym, refl, ap, ◌∙◌, subst, arith}
 use Rattle.std.specs.List.{AllByRecursion}
 use Rattle.std.proofs.lemmas.List.{map-set}
-use Rattle.std.proofs.lemmas.Bool.{cond-true, cond-false, le-ltb, true≢false}
+use Rattle.std.proofs.lemmas.Bool.{cond-true, cond-false, le-ltb, not-true}
 use Rattle.fault.specs.declared.Fault.{Fault}
-use Rattle.jobs.specs.Jobs.{is_free}
-use Rattle.slots.specs.Slots.{taken, set_up_slot}
+use Rattle.jobs.specs.Jobs.{taken, is_free}
+use Rattle.slots.specs.Slots.{set_up_slot}
 use Rattle.logger.specs.State.{Log, slot_of, with_slot}
 use Rattle.logger.specs.Calls.{after_set_up, SetUp}
 use Rattle.jobs.specs.declared.Slot.{Slot}
-use Rattle.jobs.specs.declared.Slot.TheVariants.{Free, Standing, Waiting}
+use Rattle.jobs.specs.declared.Slot.TheVariants.{Free, Standing}
 use Rattle.line.specs.declared.line.Line.{Line}
 use Rattle.script.specs.declared.lines.Script.{Script}
 use Rattle.script.specs.Lines.{lines_of, read_as}
@@ -19,15 +19,9 @@ use Rattle.line.specs.Text.{Lawful}
 use Rattle.script.specs.Text.{Different}
 use Rattle.script.proofs.Laws.{lawful_later}
 
--- a slot that is free is not taken
-not_taken : (s : Slot) → is_free s ≡ true → taken s ≡ false
-not_taken Free e = refl
-not_taken (Standing due job errand) e = absurd (true≢false (sym e))
-not_taken (Waiting due) e = absurd (true≢false (sym e))
-
 free_at : (slots : List Slot) (j : ℕ) → get_or (free_slots slots) j false ≡ true → taken (get_or slots j Free) ≡ false
 free_at [] j e = refl
-free_at (s ∷ ss) zero e = not_taken s e
+free_at (s ∷ ss) zero e = not-true (taken s) e
 free_at (s ∷ ss) (suc j) e = free_at ss j e
 
 -- what a lawful line's set-up answers, and what it leaves
