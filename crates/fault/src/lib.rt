@@ -1,7 +1,7 @@
 // What a refused call answers: why it was refused, in which part, and at which place.
 #![tactic(auto)]
 
-ghost use Rattle.std.specs.Prelude.{◌≡◌, Some};
+ghost use Rattle.std.specs.Prelude.{◌≡◌, ◌≤◌, length, Some};
 ghost use Rattle.fault.specs.Table.{number_of, in_device, in_alarm, in_logger, in_slot, in_script, in_book, in_lead};
 ghost use Rattle.fault.specs.Text.{part_text, place_text, fault_text};
 
@@ -130,18 +130,27 @@ impl Fault {
     }
 }
 
-impl fmt::Display for Part {
-    ghost output = { λ p. Some (part_text p) };
-
-    fn fmt<W: fmt::Write>(&self, f: &mut fmt::Formatter<W>) -> fmt::Result {
-        let word = match *self {
+impl Part {
+    pub fn word(self) -> &'static str
+        ensures text { result.now ≡ part_text self }
+        ensures short { length result.now ≤ 6 }
+    {
+        match self {
             Part::Device => "device",
             Part::Alarm => "alarm",
             Part::Logger => "logger",
             Part::Script => "script",
             Part::Book => "book",
             Part::Lead => "lead",
-        };
+        }
+    }
+}
+
+impl fmt::Display for Part {
+    ghost output = { λ p. Some (part_text p) };
+
+    fn fmt<W: fmt::Write>(&self, f: &mut fmt::Formatter<W>) -> fmt::Result {
+        let word = self.word();
         write!(f, "{word}")
     }
 }

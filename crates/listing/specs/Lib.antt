@@ -1,3 +1,2 @@
--- The listing of a script as text, and the page that it is written on.
-pub mod Page
+-- The listing of a script as text.
 pub mod Listing

@@ -1,12 +1,11 @@
 // The listing of a script: a line for each of its first firings, or the text of its fault.
 #![tactic(auto)]
 
-ghost use Rattle.std.specs.Prelude.{◌≡◌, ◌≤◌, length};
+ghost use Rattle.std.specs.Prelude.{◌≡◌};
 ghost use Rattle.forecasting.specs.Forecast.{places, how_many, row_after};
 ghost use Rattle.listing.specs.Listing.{listed, listing_text, copy_answer, copied};
-ghost use Rattle.listing.specs.Page.{page_text, page_after};
 
-use crate::page::Page;
+use crate::page::{Page, refusal, rows};
 use fault::{Cause, Fault};
 use forecasting::forecast;
 use slots::moment::Moment;
@@ -31,15 +30,15 @@ fn list(script: &[u8], moments: &mut [u64], slots: &mut [u8]) -> Result<usize, F
     forecast(script, start, moments, slots)
 }
 
-fn write(page: &mut Page, script: &[u8])
-    ensures text { page_text page.new ≡ page_after (page_text page.old) (listing_text script.now) }
-    ensures size { length (listing_text script.now) ≤ 1024 }
+// The text of a script's listing.
+fn text(script: &[u8]) -> Page
+    ensures { result.bytes ≡ listing_text script.now }
 {
     let mut moments = [0; MOST_LINES];
     let mut slots = [0; MOST_LINES];
     match list(script, &mut moments, &mut slots) {
-        Ok(count) => page.rows(&moments[0..count], &slots[0..count]),
-        Err(fault) => page.refusal(fault),
+        Ok(count) => rows(&moments[..count], &slots[..count]),
+        Err(fault) => refusal(fault),
     }
 }
 
@@ -48,7 +47,11 @@ pub fn listing(script: &[u8], buffer: &mut [u8]) -> Result<usize, Fault>
     ensures answer { result ≡ copy_answer (listing_text script.now) buffer.old }
     ensures buffer { buffer.new ≡ copied (listing_text script.now) buffer.old }
 {
-    let mut page = Page::new();
-    write(&mut page, script);
-    page.copy_to(buffer)
+    let page = text(script);
+    let size = page.len();
+    if size > buffer.len() {
+        return Err(Fault::in_book(Cause::NoPlace, buffer.len()));
+    }
+    buffer[..size].copy_from_slice(page.as_str().as_bytes());
+    Ok(size)
 }

@@ -14,7 +14,7 @@ pub record Log (X : Type 0) : Type 0 where
   pub stack : Meaning X
 
 abbrev pub view : {C X : Type 0} → (C → Meaning X) → Logger C → Log X
-view meaning l = record { number = l.number; moment = l.moment.ticks; slots = l.table.slots; stack = meaning l.alarm }
+view meaning l = record { number = l.number; moment = l.moment.ticks; slots = l.table; stack = meaning l.alarm }
 
 -- a slot past the table counts as free
 abbrev pub slot_of : {X : Type 0} → Log X → ℕ → Slot

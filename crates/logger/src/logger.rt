@@ -12,5 +12,5 @@ pub struct Logger<A> {
     pub(crate) moment: Moment,
     pub(crate) table: Table,
     pub(crate) alarm: A,
-    ghost limits: { table_fits table.slots ≡ true },
+    ghost limits: { table_fits table ≡ true },
 }

@@ -1,4 +1,3 @@
 -- The slot table: the slots that stand as the queue holds them, the first to come due, and the nearest.
 pub mod Dues
-pub mod Agenda
 pub mod Table

@@ -1,5 +1,5 @@
 // What a table tells of its slots, and how one is written.
-ghost use Rattle.std.specs.Prelude.{◌≡◌, ◌<◌, replicate, slice_index_or, slice_set};
+ghost use Rattle.std.specs.Prelude.{◌≡◌, replicate, slice_index_or, slice_set};
 ghost use Rattle.jobs.specs.declared.Slot.TheVariants.{Free};
 ghost use Rattle.queue.specs.Row.{first};
 ghost use Rattle.table.specs.Dues.{planned, ready_slot};
@@ -14,7 +14,7 @@ use queue::Due;
 impl Table {
     // All slots are free.
     pub fn new() -> Table
-        ensures { result.slots ≡ replicate 32 Free }
+        ensures { result ≡ replicate 32 Free }
     {
         Table {
             slots: [Slot::Free; 32],
@@ -24,47 +24,37 @@ impl Table {
 
     // The state of one slot; a slot past the table counts as free.
     pub fn state(&self, slot: usize) -> Slot
-        ensures { result ≡ slice_index_or self.now.slots slot Free }
+        ensures { result ≡ slice_index_or self.now slot Free }
     {
         state_of(&self.slots, slot)
     }
 
-    fn write(&mut self, slot: usize, state: Slot)
-        requires { slot < 32 }
-        ensures { self.new.slots ≡ slice_set self.old.slots slot state }
+    // Puts a slot into a state; there is none past the table to put.
+    pub fn put(&mut self, slot: usize, state: Slot)
+        ensures { self.new ≡ slice_set self.old slot state }
     {
         store(&mut self.slots, &mut self.agenda, slot, state);
     }
 
-    // Puts a slot into a state; there is none past the table to put.
-    pub fn put(&mut self, slot: usize, state: Slot)
-        ensures { self.new.slots ≡ slice_set self.old.slots slot state }
-    {
-        if slot < self.slots.len() {
-            self.write(slot, state);
-        }
-    }
-
     // The standing slot that comes due first, the lower one on a tie.
     fn earliest(&self) -> Option<Due>
-        ensures { result ≡ first (planned self.now.slots) }
+        ensures { result ≡ first (planned self.now) }
     {
         self.agenda.least()
     }
 
     // The slot to fire at a moment, where one is due.
     pub fn ready(&self, moment: u64) -> Option<usize>
-        ensures { result ≡ ready_slot moment self.now.slots }
+        ensures { result ≡ ready_slot moment self.now }
     {
-        match self.earliest() {
-            Some(due) if due.moment <= moment => Some(usize::from(due.slot)),
-            _ => None,
-        }
+        self.earliest()
+            .filter(|due| due.moment <= moment)
+            .map(|due| usize::from(due.slot))
     }
 
     // The smallest distance from a moment to a due one.
     pub fn nearest(&self, moment: u64) -> Option<u64>
-        ensures { result ≡ nearest moment self.now.slots }
+        ensures { result ≡ nearest moment self.now }
     {
         shortest(&self.slots, moment)
     }

@@ -1,8 +1,7 @@
 // A row of slots: a look at one, one written, and the smallest distance.
 ghost use Rattle.std.specs.Prelude.{◌≡◌, ◌<◌, ◌≤◌, length, slice_index_or, slice_set};
-ghost use Rattle.table.specs.Agenda.{agenda_dues};
 ghost use Rattle.table.specs.Dues.{due_of, planned};
-ghost use Rattle.table.specs.Table.{nearer, nearest};
+ghost use Rattle.table.specs.Table.{nearest};
 ghost use Rattle.jobs.specs.declared.Slot.TheVariants.{Free};
 
 use crate::agenda::Agenda;
@@ -31,26 +30,18 @@ pub(crate) fn state_of(slots: &[Slot], slot: usize) -> Slot
     slots.get(slot).copied().unwrap_or(Slot::Free)
 }
 
-// Puts a slot into a state, and keeps the agenda in step.
+// Puts a slot into a state, and keeps the agenda in step; there is none past the row to put.
+#[tactic(auto, using(crate::proofs::Planned::planned_less, crate::proofs::Planned::planned_set, crate::proofs::Planned::others_short))]
 pub(crate) fn store(slots: &mut [Slot], agenda: &mut Agenda, slot: usize, state: Slot)
-    requires place { slot < length slots.old }
     requires size { length slots.old ≤ 32 }
-    requires tied { agenda_dues agenda.old ≡ planned slots.old }
+    requires tied { agenda.old ≡ planned slots.old }
     ensures table { slots.new ≡ slice_set slots.old slot state }
-    ensures agenda { agenda_dues agenda.new ≡ planned (slice_set slots.old slot state) }
+    ensures agenda { agenda.new ≡ planned slots.new }
 {
-    agenda.forget(record_of(state_of(slots, slot), slot));
-    agenda.note(record_of(state, slot));
-    slots[slot] = state;
-}
-
-fn smaller(a: Option<u64>, b: Option<u64>) -> Option<u64>
-    ensures { result ≡ nearer a b }
-{
-    match (a, b) {
-        (None, other) => other,
-        (Some(m), None) => Some(m),
-        (Some(m), Some(n)) => Some(m.min(n)),
+    if slot < slots.len() {
+        agenda.forget(record_of(slots[slot], slot));
+        agenda.note(record_of(state, slot));
+        slots[slot] = state;
     }
 }
 
@@ -60,7 +51,9 @@ pub(crate) fn shortest(slots: &[Slot], moment: u64) -> Option<u64>
 {
     let mut least = None;
     for slot in slots {
-        least = smaller(least, distance(*slot, moment));
+        if let Some(left) = distance(*slot, moment) {
+            least = Some(least.map_or(left, |smallest: u64| smallest.min(left)));
+        }
     }
     least
 }

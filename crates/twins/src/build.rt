@@ -1,33 +1,52 @@
-// One build of the product: a logger over its clocks, and what it has reported so far.
+// One build of the product: a logger over its clocks, and what it has told so far.
 use crate::halt::Halt;
-use crate::report::Report;
 use clock::alarm::Alarm;
 use jobs::{Action, Firing, Job, Outcome};
 use logger::logger::Logger;
 use logger::ticket::Ticket;
 use std::alloc::Global;
+use std::iter;
 
 // The slot of the job that both builds run.
 pub const SHARED_SLOT: usize = 3;
 
+// A job, its slot, and the delay from now on after which it is first due.
+#[derive(Clone, Copy)]
+pub struct Plan {
+    pub slot: usize,
+    pub delay: u64,
+    pub job: Job,
+}
+
+// What two builds with the same job are to tell alike.
+#[derive(PartialEq, Drop)]
+pub struct Told {
+    // the moments read
+    pub moments: Vec<u64>,
+    // the firings of the shared slot
+    pub reports: Vec<Firing>,
+}
+
 #[derive(Drop)]
 pub struct Build<A: Alarm> {
     logger: Logger<A>,
-    // the firings of the shared slot
-    reports: Vec<Firing>,
-    // how many firings of other slots came
-    others: u64,
+    told: Told,
+    // the firings of other slots
+    others: Vec<Firing>,
     // the longest wait that `hold` allowed
     longest: u64,
 }
 
-// The logger is emptied by `next` before every other call, as the promise about two loggers asks.
 impl<A: Alarm> Build<A> {
     pub fn new(heap: Global, logger: Logger<A>) -> Build<A> {
+        let told = Told {
+            moments: Vec::new(heap),
+            reports: Vec::new(heap),
+        };
         Build {
             logger,
-            reports: Vec::new(heap),
-            others: 0,
+            told,
+            others: Vec::new(heap),
             longest: 0,
         }
     }
@@ -36,65 +55,63 @@ impl<A: Alarm> Build<A> {
         &self.logger
     }
 
-    pub fn reports(&self) -> &[Firing] {
-        self.reports.as_slice()
+    pub fn told(&self) -> &Told {
+        &self.told
     }
 
-    // The report with this number, from 0.
-    pub fn report(&self, i: usize) -> Report {
-        Report(self.reports.get(i).copied())
-    }
-
-    pub fn others(&self) -> u64 {
-        self.others
+    // How many firings of other slots came.
+    pub fn others(&self) -> usize {
+        self.others.len()
     }
 
     pub fn longest(&self) -> u64 {
         self.longest
     }
 
+    // Bounded, since every loop is to end; no run fires so often.
     pub fn empty(&mut self) -> Result<(), Halt> {
-        for _ in 0..u64::MAX {
-            match self.logger.next() {
-                None => break,
-                Some(firing) if firing.slot == SHARED_SLOT => self.reports.push(firing)?,
-                Some(_) => self.others = self.others.saturating_add(1),
+        for firing in iter::from_fn(|| self.logger.next()).take(usize::MAX) {
+            if firing.slot == SHARED_SLOT {
+                self.told.reports.push(firing)?;
+            } else {
+                self.others.push(firing)?;
             }
         }
         Ok(())
     }
 
+    // The logger, emptied before it is called, as the promise about two loggers asks.
+    fn emptied(&mut self) -> Result<&mut Logger<A>, Halt> {
+        self.empty()?;
+        Ok(&mut self.logger)
+    }
+
     // Also emptied after it, so that what fires at this moment is among the reports.
     pub fn serve(&mut self, sample: A::Sample) -> Result<u64, Halt> {
-        self.empty()?;
-        let moment = self.logger.serve(sample)?;
+        let moment = self.emptied()?.serve(sample)?;
+        self.told.moments.push(moment)?;
         self.empty()?;
         Ok(moment)
     }
 
     pub fn hold(&mut self) -> Result<(), Halt> {
-        self.empty()?;
-        self.longest = self.longest.max(self.logger.hold());
+        self.longest = self.longest.max(self.emptied()?.hold());
         Ok(())
     }
 
-    // Sets a job up, first due a delay from now on.
-    pub fn set_up(&mut self, slot: usize, delay: u64, job: Job) -> Result<u64, Halt> {
-        self.empty()?;
-        let reference = self.logger.moment();
-        Ok(self.logger.set_up(slot, reference, delay, job)?)
+    pub fn set_up(&mut self, plan: Plan) -> Result<u64, Halt> {
+        let logger = self.emptied()?;
+        Ok(logger.set_up(plan.slot, logger.moment(), plan.delay, plan.job)?)
     }
 
     pub fn call_off(&mut self, slot: usize) -> Result<u64, Halt> {
-        self.empty()?;
-        Ok(self.logger.call_off(slot)?)
+        Ok(self.emptied()?.call_off(slot)?)
     }
 
     // Sets an errand up, due a delay from now on.
     pub fn errand(&mut self, slot: usize, delay: u64, action: Action) -> Result<Ticket, Halt> {
-        self.empty()?;
-        let reference = self.logger.moment();
-        Ok(self.logger.errand(slot, reference, delay, action)?)
+        let logger = self.emptied()?;
+        Ok(logger.errand(slot, logger.moment(), delay, action)?)
     }
 
     // The ticket is spent before anything can fail.

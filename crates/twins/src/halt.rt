@@ -1,30 +1,16 @@
 // Why a run stops before its end.
 use fault::Fault;
-use std::alloc::AllocFailed;
+use std::alloc::AllocError;
 use std::io;
+use thiserror::Error;
 
-#[derive(Debug, Drop)]
+#[derive(Debug, Drop, Error)]
 pub enum Halt {
     // a call that was refused
-    Call(Fault),
-    Output(io::Error),
-    Memory,
-}
-
-impl From<Fault> for Halt {
-    fn from(fault: Fault) -> Halt {
-        Halt::Call(fault)
-    }
-}
-
-impl From<io::Error> for Halt {
-    fn from(error: io::Error) -> Halt {
-        Halt::Output(error)
-    }
-}
-
-impl<T: Drop> From<AllocFailed<T>> for Halt {
-    fn from(_value: AllocFailed<T>) -> Halt {
-        Halt::Memory
-    }
+    #[error("{0}")]
+    Call(#[from] Fault),
+    #[error("output: {0}")]
+    Output(#[from] io::Error),
+    #[error(transparent)]
+    Memory(#[from(alloc)] AllocError),
 }

@@ -11,25 +11,11 @@ mod samples;
 mod stacks;
 mod twins;
 
-use clock::alarm::Alarm;
-use down::Count;
-use fault::Fault;
 use halt::Halt;
 use slots::moment::Moment;
 use twins::{START, Twins};
-use up::Word;
 
 fn main(rt: HostRuntime) -> Result<(), Halt> {
-    run(&rt, stacks::up(), stacks::down())
-}
-
-fn run<U: Alarm<Sample = Word> + Drop, D: Alarm<Sample = Count> + Drop>(
-    rt: &HostRuntime,
-    up: Result<U, Fault>,
-    down: Result<D, Fault>,
-) -> Result<(), Halt> {
-    let up = up?;
-    let down = down?;
-    let mut twins = Twins::new(rt.alloc(), Moment::new(START)?, up, down);
-    twins.run(rt)
+    let start = Moment::new(START)?;
+    Twins::new(rt.alloc(), start, stacks::up()?, stacks::down()?).run(&rt)
 }

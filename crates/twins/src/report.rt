@@ -1,5 +1,5 @@
 // A cell of the table: what a build reported of the job.
-use jobs::{Action, Firing};
+use jobs::Firing;
 use std::fmt;
 
 #[derive(Clone, Copy)]
@@ -10,20 +10,7 @@ impl fmt::Display for Report {
     fn fmt<W: fmt::Write>(&self, f: &mut fmt::Formatter<W>) -> fmt::Result {
         match self.0 {
             None => write!(f, "none"),
-            Some(
-                Firing {
-                    due,
-                    action: Action::Read { channel },
-                    ..
-                },
-            ) => write!(f, "{due} read {channel}"),
-            Some(
-                Firing {
-                    due,
-                    action: Action::Mark,
-                    ..
-                },
-            ) => write!(f, "{due} mark"),
+            Some(Firing { due, action, .. }) => write!(f, "{due} {action}"),
         }
     }
 }

@@ -1,5 +1,5 @@
 // The two builds, and the table of what they report of the job.
-use crate::build::{Build, SHARED_SLOT};
+use crate::build::{Build, Plan, SHARED_SLOT};
 use crate::halt::Halt;
 use crate::report::Report;
 use crate::samples::{AFTER, BEFORE, DURING, STRAY, Samples};
@@ -10,39 +10,52 @@ use logger::logger::Logger;
 use promise::start_alike;
 use slots::moment::Moment;
 use std::alloc::Global;
-use std::io;
+use std::{fmt, io, iter};
 use up::Word;
 
 pub const START: u64 = 1000;
 
 // The job that both run.
-const SHARED: Job = Job {
-    kind: Kind::Every { period: 25 },
-    action: Action::Read { channel: 2 },
+const SHARED: Plan = Plan {
+    slot: SHARED_SLOT,
+    delay: 25,
+    job: Job {
+        kind: Kind::Every { period: 25 },
+        action: Action::Read { channel: 2 },
+    },
 };
 
 // The other job of the first build.
-const MARKS: Job = Job {
-    kind: Kind::Burst {
-        count: 4,
-        period: 40,
+const MARKS: Plan = Plan {
+    slot: 0,
+    delay: 10,
+    job: Job {
+        kind: Kind::Burst {
+            count: 4,
+            period: 40,
+        },
+        action: Action::Mark,
     },
-    action: Action::Mark,
 };
 
 // The other jobs of the second build.
-const READS: Job = Job {
-    kind: Kind::Every { period: 60 },
-    action: Action::Read { channel: 9 },
+const READS: Plan = Plan {
+    slot: 2,
+    delay: 60,
+    job: Job {
+        kind: Kind::Every { period: 60 },
+        action: Action::Read { channel: 9 },
+    },
 };
 
-const MARK: Job = Job {
-    kind: Kind::Once,
-    action: Action::Mark,
+const MARK: Plan = Plan {
+    slot: 31,
+    delay: 100,
+    job: Job {
+        kind: Kind::Once,
+        action: Action::Mark,
+    },
 };
-
-// The slot of the second build's reads.
-const READS_SLOT: usize = 2;
 
 #[derive(Drop)]
 pub struct Twins<U: Alarm, D: Alarm> {
@@ -50,10 +63,9 @@ pub struct Twins<U: Alarm, D: Alarm> {
     down: Build<D>,
     // how many reports of the job are in the table
     shown: usize,
-    // whether both have read the same moments so far
-    together: bool,
 }
 
+// One word for a fact: a type with a Display of its own would say no more.
 fn yes(fact: bool) -> &'static str {
     if fact { "yes" } else { "no" }
 }
@@ -64,7 +76,6 @@ impl<U: Alarm<Sample = Word>, D: Alarm<Sample = Count>> Twins<U, D> {
             up: Build::new(heap, Logger::new(up, 1, start)),
             down: Build::new(heap, Logger::new(down, 2, start)),
             shown: 0,
-            together: true,
         }
     }
 
@@ -81,8 +92,13 @@ impl<U: Alarm<Sample = Word>, D: Alarm<Sample = Count>> Twins<U, D> {
     // Sets the shared job up in both, between other jobs of each.
     pub fn begin(&mut self, rt: &HostRuntime) -> Result<(), Halt> {
         self.show_start(rt)?;
-        begin_up(&mut self.up)?;
-        begin_down(&mut self.down)?;
+        for plan in [MARKS, SHARED] {
+            self.up.set_up(plan)?;
+        }
+        for plan in [SHARED, READS, MARK] {
+            self.down.set_up(plan)?;
+        }
+        self.down.hold()?;
         println!(rt; "moment | up | down")?;
         Ok(())
     }
@@ -103,15 +119,20 @@ impl<U: Alarm<Sample = Word>, D: Alarm<Sample = Count>> Twins<U, D> {
     fn serve(&mut self, samples: Samples) -> Result<u64, Halt> {
         self.up.hold()?;
         let moment = self.up.serve(samples.up)?;
-        self.together &= self.down.serve(samples.down)? == moment;
+        self.down.serve(samples.down)?;
         Ok(moment)
     }
 
     // A line for each new report of the job, or one where there is none.
     fn show(&mut self, rt: &HostRuntime, moment: u64) -> io::Result<()> {
-        let most = self.up.reports().len().max(self.down.reports().len());
-        for i in self.shown..most.max(self.shown.saturating_add(1)) {
-            show_row(rt, moment, self.up.report(i), self.down.report(i))?;
+        let ups = &self.up.told().reports;
+        let downs = &self.down.told().reports;
+        let most = ups.len().max(downs.len());
+        let up = ups.iter().copied().map(Some).chain(iter::repeat(None));
+        let down = downs.iter().copied().map(Some).chain(iter::repeat(None));
+        let rows = up.zip(down).take(most.max(self.shown.saturating_add(1)));
+        for (up, down) in rows.skip(self.shown) {
+            show_row(rt, moment, Report(up), Report(down))?;
         }
         self.shown = most;
         Ok(())
@@ -140,7 +161,7 @@ impl<U: Alarm<Sample = Word>, D: Alarm<Sample = Count>> Twins<U, D> {
 
     // The second build calls a job of its own off.
     fn call_off(&mut self, rt: &HostRuntime) -> Result<(), Halt> {
-        let due = self.down.call_off(READS_SLOT)?;
+        let due = self.down.call_off(READS.slot)?;
         println!(rt; "down: called off {due}")?;
         Ok(())
     }
@@ -149,42 +170,30 @@ impl<U: Alarm<Sample = Word>, D: Alarm<Sample = Count>> Twins<U, D> {
     pub fn finish(&mut self, rt: &HostRuntime) -> Result<(), Halt> {
         let up = self.up.call_off(SHARED_SLOT)?;
         let down = self.down.call_off(SHARED_SLOT)?;
-        show_pair(rt, "called off", up, down)?;
+        show_row(rt, "called off", up, down)?;
         self.show_totals(rt)?;
         Ok(())
     }
 
     fn show_totals(&self, rt: &HostRuntime) -> io::Result<()> {
-        show_pair(rt, "other firings", self.up.others(), self.down.others())?;
-        show_pair(rt, "longest hold", self.up.longest(), self.down.longest())?;
-        let agreed = yes(self.together && self.up.reports() == self.down.reports());
+        show_row(rt, "other firings", self.up.others(), self.down.others())?;
+        show_row(rt, "longest hold", self.up.longest(), self.down.longest())?;
+        let agreed = yes(self.up.told() == self.down.told());
         println!(rt; "firings agreed: {agreed}")
     }
 }
 
-fn begin_up<U: Alarm>(up: &mut Build<U>) -> Result<(), Halt> {
-    up.set_up(0, 10, MARKS)?;
-    up.set_up(SHARED_SLOT, 25, SHARED)?;
-    Ok(())
-}
-
-fn begin_down<D: Alarm>(down: &mut Build<D>) -> Result<(), Halt> {
-    down.set_up(SHARED_SLOT, 25, SHARED)?;
-    down.set_up(READS_SLOT, 60, READS)?;
-    down.set_up(31, 100, MARK)?;
-    down.hold()
-}
-
-fn show_row(rt: &HostRuntime, moment: u64, up: Report, down: Report) -> io::Result<()> {
-    println!(rt; "{moment} | {up} | {down}")
+fn show_row<H: fmt::Display + Copy, C: fmt::Display + Copy>(
+    rt: &HostRuntime,
+    head: H,
+    up: C,
+    down: C,
+) -> io::Result<()> {
+    println!(rt; "{head} | {up} | {down}")
 }
 
 fn show_outcome(rt: &HostRuntime, outcome: Outcome) -> io::Result<()> {
     let due = outcome.due;
     let fired = yes(outcome.fired);
     println!(rt; "up: settled {due} {fired}")
-}
-
-fn show_pair(rt: &HostRuntime, what: &str, up: u64, down: u64) -> io::Result<()> {
-    println!(rt; "{what} | {up} | {down}")
 }

@@ -1,7 +1,6 @@
 // What the logger does with its queue.
 ghost use Rattle.std.specs.Prelude.{◌≡◌, ◌<◌, [], length};
 ghost use Rattle.queue.specs.Row.{first};
-ghost use Rattle.table.specs.Agenda.{agenda_dues};
 ghost use Rattle.table.specs.Dues.{noted, forgotten};
 
 use super::Agenda;
@@ -9,7 +8,7 @@ use queue::{Due, Queue};
 
 impl Agenda {
     pub(crate) fn new() -> Agenda
-        ensures { agenda_dues result ≡ [] }
+        ensures { result ≡ [] }
     {
         let blank = Due { moment: 0, slot: 0 };
         Agenda {
@@ -20,14 +19,14 @@ impl Agenda {
 
     // The record that comes due first, the lower slot on a tie.
     pub(crate) fn least(&self) -> Option<Due>
-        ensures { result ≡ first (agenda_dues self.now) }
+        ensures { result ≡ first self.now }
     {
         self.queue.least(&self.row)
     }
 
     pub(crate) fn note(&mut self, due: Option<Due>)
-        requires { length (agenda_dues self.old) < 32 }
-        ensures { agenda_dues self.new ≡ noted due (agenda_dues self.old) }
+        requires { length self.old < 32 }
+        ensures { self.new ≡ noted due self.old }
     {
         if let Some(due) = due {
             // it is not refused: there is a place for each slot
@@ -36,7 +35,7 @@ impl Agenda {
     }
 
     pub(crate) fn forget(&mut self, due: Option<Due>)
-        ensures { agenda_dues self.new ≡ forgotten due (agenda_dues self.old) }
+        ensures { self.new ≡ forgotten due self.old }
     {
         if let Some(due) = due {
             self.queue.remove(&mut self.row, due);
