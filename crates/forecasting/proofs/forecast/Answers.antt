@@ -7,8 +7,7 @@ use Rattle.queue.specs.Order.{in_order}
 use Rattle.line.specs.declared.line.Line.{Line}
 use Rattle.forecasting.specs.Forecast.{all_free, first_firings, forecast_of, places, how_many, row_after}
 use Rattle.script.specs.Lines.{lines_of, read_as}
-use Rattle.forecasting.specs.Pending.{pending, pending_order, firings}
-use Rattle.forecasting.specs.Plan.{waiting, Calm}
+use Rattle.forecasting.specs.Pending.{pending, pending_order, firings, Calm}
 use Rattle.script.specs.Script.{script_of}
 use Rattle.line.specs.Text.{Lawful}
 use Rattle.line.proofs.Binds.{bind_ok}
@@ -25,7 +24,7 @@ read_ok c = sym c.read.ensures.answer ∙ ap read_as c.in_ok-loaded.was
 lawful : (c : After-room-most) → AllByRecursion (Lawful all_free) (lines_of c.in_ok-loaded.loaded)
 lawful c = ((law all_free c.args.script.now).written (lines_of c.in_ok-loaded.loaded) (read_ok c)).lawful
 
-plan_is : (c : After-room-most) → waiting c.of-plan.result ≡ in_order pending_order (map (pending c.args.start.ticks) (lines_of c.in_ok-loaded.loaded))
+plan_is : (c : After-room-most) → c.of-plan.result ≡ in_order pending_order (map (pending c.args.start.ticks) (lines_of c.in_ok-loaded.loaded))
 plan_is c =
     c.of-plan.ensures
     ∙ ap (λ s. in_order pending_order (map (pending s) c.lines.result.now)) c.ticks.ensures
@@ -34,7 +33,7 @@ plan_is c =
 most_is : (c : After-room-most) → c.room-most.result ≡ places c.args.moments.now c.args.slots.now
 most_is c = c.room-most.ensures
 
-foretold : (c : After-room-most) → forecast_of (places c.args.moments.now c.args.slots.now) c.args.start.ticks c.args.script.now ≡ Ok (firings c.room-most.result (waiting c.of-plan.result))
+foretold : (c : After-room-most) → forecast_of (places c.args.moments.now c.args.slots.now) c.args.start.ticks c.args.script.now ≡ Ok (firings c.room-most.result c.of-plan.result)
 foretold c =
     bind_ok _ (read_ok c)
     ∙ ap (λ n. Ok (first_firings n c.args.start.ticks (lines_of c.in_ok-loaded.loaded))) (sym (most_is c))
@@ -68,21 +67,21 @@ of-plan-requires c =
 pub loop-i-init : goal.loop-i-init
 loop-i-init c =
     let W : List _ → Type 0 = λ w. AllByRecursion (Calm (2 ^ 62 + 2 ^ 40)) w in
-    sofar_none c.room-most.result (waiting c.of-plan.result) c.args.moments.now c.args.slots.now
+    sofar_none c.room-most.result c.of-plan.result c.args.moments.now c.args.slots.now
     (subst W (sym (plan_is c)) (all_in_order (Calm (2 ^ 62 + 2 ^ 40)) _ (calm_lines all_free c.args.start.ticks (lines_of c.in_ok-loaded.loaded) c.args.start.early (lawful c))))
 
 pub next-requires : goal.next-requires
 next-requires c =
     let i = c.loop-i.i in
     let few : i < 256 = omega (arith, c.loop-i-test.true, c.room-most.ensures) in
-    calm_more (2 ^ 62 + (i + 1) * 2 ^ 40) (2 ^ 63) (waiting c.loop-i.plan) (omega arith) c.loop-i.invariant.calm
+    calm_more (2 ^ 62 + (i + 1) * 2 ^ 40) (2 ^ 63) c.loop-i.plan (omega arith) c.loop-i.invariant.calm
 
 pub returns-in_default : goal.returns-in_default
 returns-in_default c =
     let d = (goal.at.returns-in_default c).After-room-most in
     let n = c.room-most.result in
-    let ds = firings n (waiting c.of-plan.result) in
-    let done = done_early n ds c.args.moments.now c.args.slots.now c.loop-i.i c.loop-i.moments c.loop-i.slots (waiting c.loop-i.plan) c.in_default.ensures.answer c.loop-i.invariant in
+    let ds = firings n c.of-plan.result in
+    let done = done_early n ds c.args.moments.now c.args.slots.now c.loop-i.i c.loop-i.moments c.loop-i.slots c.loop-i.plan c.in_default.ensures.answer c.loop-i.invariant in
     record {
       answer = answered n ds c.args.moments.now c.args.slots.now c.loop-i.i c.loop-i.moments c.loop-i.slots _ (foretold d) done;
       moments = moments_after n ds c.args.moments.now c.args.slots.now c.loop-i.i c.loop-i.moments c.loop-i.slots _ (foretold d) done;
@@ -95,19 +94,19 @@ loop-i-preserved c =
     let n = c.room-most.result in
     let inside : c.loop-i.i < n = c.loop-i-test.true in
     let most : n ≡ min (min (length c.args.moments.now) (length c.args.slots.now)) 256 = c.room-most.ensures in
-    sofar_more n (firings n (waiting c.of-plan.result)) c.args.moments.now c.args.slots.now c.loop-i.i c.loop-i.moments c.loop-i.slots
-    (waiting c.loop-i.plan) (waiting c.next.new.self) c.in-Some.due c.in-Some.ensures.answer c.next.ensures.after inside (omega arith) (omega arith) c.loop-i.invariant
+    sofar_more n (firings n c.of-plan.result) c.args.moments.now c.args.slots.now c.loop-i.i c.loop-i.moments c.loop-i.slots
+    c.loop-i.plan c.next.new.self c.in-Some.due c.in-Some.ensures.answer c.next.ensures.after inside (omega arith) (omega arith) c.loop-i.invariant
 
 pub returns : goal.returns
 returns c =
     let d = (goal.at.returns c).After-room-most in
     let n = c.room-most.result in
-    let ds = firings n (waiting c.of-plan.result) in
+    let ds = firings n c.of-plan.result in
     let i = c.loop-i.i in
     let high : i ≤ n = c.loop-i.auto.i-end in
     let low : n ≤ i = c.loop-i-test.false in
     let same : i ≡ n = omega arith in
-    let done = done_full n ds c.args.moments.now c.args.slots.now i c.loop-i.moments c.loop-i.slots (waiting c.loop-i.plan) low c.loop-i.invariant in
+    let done = done_full n ds c.args.moments.now c.args.slots.now i c.loop-i.moments c.loop-i.slots c.loop-i.plan low c.loop-i.invariant in
     record {
       answer = ap (λ m. Ok m) (sym same) ∙ answered n ds c.args.moments.now c.args.slots.now i c.loop-i.moments c.loop-i.slots _ (foretold d) done;
       moments = moments_after n ds c.args.moments.now c.args.slots.now i c.loop-i.moments c.loop-i.slots _ (foretold d) done;
