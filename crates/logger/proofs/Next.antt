@@ -36,6 +36,9 @@ next_law l = by (soonest l.moment 0 l.slots) (answered l.moment 0 l.slots)
     by None a = λ k g e. never (sym (a k k) ∙ e)
     by (Some f) best = due f best (leb f.due f.at) refl
 
+pub law_of_answer : {X : Type 0} (l : Log X) (r : Option Firing) → r ≡ next_answer l → NextLaw l r
+law_of_answer l r e = subst (NextLaw l) (sym e) (next_law l)
+
 -- and the law leaves one answer only: what is first is what next answers, and none where nothing is due
 module _ {X : Type 0} (l : Log X) where
   one_first : (f g : Firing) → First l f → First l g → f ≡ g

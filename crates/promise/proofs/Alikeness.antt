@@ -2,6 +2,8 @@
 use Rattle.std.proofs.Common.{◌≡◌, ℕ, Bool, true, false, ◌&&◌, T, eqb, List, [], ◌∷◌, length, replicate, sym, refl, ap, ◌∙◌}
 use Rattle.std.proofs.lemmas.Bool.{and_parts, eqb-true}
 use Rattle.clock.specs.Meaning.{Counts}
+use Rattle.std.specs.List.{list_all}
+use Rattle.jobs.specs.Jobs.{is_free}
 use Rattle.jobs.specs.declared.Slot.{Slot}
 use Rattle.jobs.specs.declared.Slot.TheVariants.{Free, Standing, Waiting}
 use Rattle.logger.specs.State.{Log}
@@ -16,6 +18,10 @@ use Rattle.promise.proofs.Timing.{timely}
 use Rattle.promise.proofs.Sameness.{same_seen}
 
 -- a table of free slots
+pub each_free : (slots : List Slot) → list_all is_free slots ≡ all_free slots
+each_free [] = refl
+each_free (slot ∷ slots) = ap (λ b. is_free slot && b) (each_free slots)
+
 pub free_table : (slots : List Slot) → all_free slots ≡ true → slots ≡ replicate (length slots) Free
 free_table [] e = refl
 free_table (Free ∷ slots) e = ap (λ (xs : List Slot). Free ∷ xs) (free_table slots e)

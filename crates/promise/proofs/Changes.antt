@@ -15,7 +15,8 @@ use Rattle.logger.specs.declared.ticket.Ticket.{Ticket}
 use Rattle.jobs.specs.declared.Outcome.{Outcome}
 use Rattle.logger.specs.State.{Log, slot_of, with_slot}
 use Rattle.slots.specs.Limits.{kind_fits, job_fits}
-use Rattle.slots.specs.Slots.{once_job, taken, set_up_slot, coming, fired}
+use Rattle.jobs.specs.Jobs.{taken}
+use Rattle.slots.specs.Slots.{once_job, set_up_slot, coming, fired}
 use Rattle.logger.specs.Calls.{after_set_up, ticketed, NextLaw, First, Quiet}
 use Rattle.logger.proofs.Next.{next_law}
 use Rattle.promise.specs.Runs.{Event, serve, set_up, errand, call_off, settle, next, hold, Step, is_next, emptied_by}

@@ -1,5 +1,5 @@
 -- What one slot has still to report: the due moments that it promises, and what a firing leaves of them. Assumes nothing.
-use Rattle.std.proofs.Common.{◌≡◌, ℕ, zero, suc, ◌+◌, ◌-◌, ◌*◌, ◌<◌, ◌≤◌, Bool, true, false, cond, ltb, Some, sym, refl, ap, ◌∙◌, subst, arith}
+use Rattle.std.proofs.Common.{◌≡◌, ℕ, zero, suc, ◌+◌, ◌-◌, ◌*◌, ◌<◌, ◌≤◌, Bool, true, false, cond, ltb, Some, None, sym, refl, ap, ◌∙◌, subst, arith}
 use Rattle.std.proofs.lemmas.Bool.{lt-ltb, ltb-true}
 use Rattle.jobs.specs.declared.Slot.{Slot}
 use Rattle.jobs.specs.declared.Slot.TheVariants.{Free, Standing, Waiting}
@@ -7,7 +7,7 @@ use Rattle.jobs.specs.declared.Kind.{Kind}
 use Rattle.jobs.specs.declared.Kind.TheVariants.{Once, Every, Burst}
 use Rattle.jobs.specs.declared.Action.{Action}
 use Rattle.jobs.specs.declared.Firing.{Firing}
-use Rattle.slots.specs.Slots.{coming, fired, again}
+use Rattle.slots.specs.Slots.{coming, fired, stand_on, again}
 use Rattle.promise.specs.Words.{DueMoment}
 use Rattle.promise.proofs.Basics.{none_some, some_same}
 
@@ -100,7 +100,7 @@ again_from (Every period) due action action' u ((k, e), a) = ((suc k, omega arit
 again_from (Burst count period) due action action' u p = go (ltb 1 count) refl p
   where
     go : (b : Bool) → ltb 1 count ≡ b
-        → Promises (cond b (Standing (due + period) (record { kind = Burst (count - 1) period; action = action }) false) Free) action' u
+        → Promises (stand_on due action (cond b (Some (period, Burst (count - 1) period)) None)) action' u
         → DueMoment (Burst count period) due u × (action ≡ action')
     go true t ((k, h, e), a) = ((suc k, omega arith, omega arith), a)
     go false t p = absurd p
@@ -116,7 +116,7 @@ again_steady Once due action s = tt
 again_steady (Every period) due action s = s
 again_steady (Burst count period) due action s = go (ltb 1 count) refl
   where
-    go : (b : Bool) → ltb 1 count ≡ b → SteadySlot (cond b (Standing (due + period) (record { kind = Burst (count - 1) period; action = action }) false) Free)
+    go : (b : Bool) → ltb 1 count ≡ b → SteadySlot (stand_on due action (cond b (Some (period, Burst (count - 1) period)) None))
     go true t = (omega (arith, ltb-true 1 count t), s.1)
     go false t = tt
 
@@ -133,7 +133,7 @@ again_later s j (Every period) due action g st e =
     let same : due + period ≡ g.due = ap (λ (x : Firing). x.due) (some_same e) in omega arith
 again_later s j (Burst count period) due action g st e = go (ltb 1 count) e
   where
-    go : (b : Bool) → coming s j (cond b (Standing (due + period) (record { kind = Burst (count - 1) period; action = action }) false) Free) ≡ Some g → due < g.due
+    go : (b : Bool) → coming s j (stand_on due action (cond b (Some (period, Burst (count - 1) period)) None)) ≡ Some g → due < g.due
     go true e = let same : due + period ≡ g.due = ap (λ (x : Firing). x.due) (some_same e) in omega arith
     go false e = none_some e
 
