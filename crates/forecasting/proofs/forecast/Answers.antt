@@ -12,7 +12,6 @@ use Rattle.script.specs.Script.{script_of}
 use Rattle.line.specs.Text.{Lawful}
 use Rattle.line.proofs.Binds.{bind_ok}
 use Rattle.forecasting.proofs.Foretold.{line_delay, calm_lines, forecast_law}
-use Rattle.script.proofs.Laws.{law}
 use Rattle.forecasting.proofs.Rows.{Done, all_in_order, calm_more, sofar_none, sofar_more, done_early, done_full}
 use Rattle.forecasting.proofs.forecast.Goals as goal
 use Rattle.forecasting.proofs.forecast.Goals.{After-room-most}
@@ -22,7 +21,7 @@ read_ok : (c : After-room-most) → script_of all_free c.args.script.now ≡ Ok 
 read_ok c = sym c.read.ensures.answer ∙ ap read_as c.in_ok-loaded.was
 
 lawful : (c : After-room-most) → AllByRecursion (Lawful all_free) (lines_of c.in_ok-loaded.loaded)
-lawful c = ((law all_free c.args.script.now).written (lines_of c.in_ok-loaded.loaded) (read_ok c)).lawful
+lawful c = (c.read.ensures.law.written (lines_of c.in_ok-loaded.loaded) (read_ok c)).lawful
 
 plan_is : (c : After-room-most) → c.of-plan.result ≡ in_order pending_order (map (pending c.args.start.ticks) (lines_of c.in_ok-loaded.loaded))
 plan_is c =
@@ -50,19 +49,14 @@ module _ (n : ℕ) (ds : List Due) (moments slots : List ℕ) (i : ℕ) (moments
   slots_after : slots' ≡ row_after (λ d. d.slot) r slots
   slots_after = done.slots_are ∙ sym (ap (λ x. row_after (λ d. d.slot) x slots) is)
 
-pub of-plan-requires : goal.of-plan-requires
-of-plan-requires c =
+pub of-plan-requires-clause-early : goal.of-plan-requires-clause-early
+of-plan-requires-clause-early c =
     let loaded = c.in_ok-loaded.loaded in
-    let ok = sym c.read.ensures.answer ∙ ap read_as c.in_ok-loaded.was in
-    let all = ((law all_free c.args.script.now).written (lines_of loaded) ok).lawful in
+    let all = (c.read.ensures.law.written (lines_of loaded) (sym c.read.ensures.answer ∙ ap read_as c.in_ok-loaded.was)).lawful in
     let early : c.args.start.ticks < 2 ^ 62 = c.args.start.early in
     let same : c.ticks.result ≡ c.args.start.ticks = c.ticks.ensures in
-    let most : loaded.count ≤ 32 = loaded.within in
     let P : List Line → Type 0 = λ ls. AllByRecursion (λ l. c.ticks.result + l.delay < 2 ^ 64) ls in
-    record {
-      few = rw c.lines.ensures (simp length-take (omega arith));
-      early = subst P (sym c.lines.ensures) (All-weaker (Lawful all_free) (λ l. c.ticks.result + l.delay < 2 ^ 64) (λ l h. omega (arith, line_delay all_free l h)) (lines_of loaded) all);
-    }
+    subst P (sym c.lines.ensures) (All-weaker (Lawful all_free) (λ l. c.ticks.result + l.delay < 2 ^ 64) (λ l h. omega (arith, line_delay all_free l h)) (lines_of loaded) all)
 
 pub loop-i-init : goal.loop-i-init
 loop-i-init c =
