@@ -1,6 +1,7 @@
 -- A script is accepted exactly when it is the text of lawful lines, which it is read as. Assumes nothing.
-use Rattle.std.proofs.Common.{◌≡◌, ℕ, zero, suc, ◌+◌, ◌^◌, ◌<◌, Bool, true, false, cond, ◌&&◌, eqb, ltb, leb, List, [], ◌∷◌, ◌++◌, length, get_or, set, Ok, count_by, sym, refl, ap, ◌∙◌, subst, arith}
+use Rattle.std.proofs.Common.{◌≡◌, ℕ, ◌+◌, ◌^◌, ◌<◌, Bool, true, false, cond, ◌&&◌, eqb, ltb, leb, List, [], ◌∷◌, ◌++◌, length, get_or, set, Ok, count_by, sym, refl, ap, ◌∙◌, subst, arith}
 use Rattle.std.specs.List.{AllByRecursion, join_with_byte}
+use Rattle.std.proofs.lemmas.Grind.{common_steps}
 use Rattle.std.proofs.lemmas.List.{get_or-set_other}
 use Rattle.std.proofs.lemmas.List.Splits.{slice_split_at, join_with_byte-slice_split}
 use Rattle.std.proofs.lemmas.List.Sums.{sum_by-set}
@@ -50,9 +51,7 @@ small free l law =
 
 -- a slot that is free after slot s was taken
 taken_now : (free : List Bool) (s : ℕ) → get_or (set free s false) s false ≡ false
-taken_now [] s = refl
-taken_now (b ∷ bs) zero = refl
-taken_now (b ∷ bs) (suc s) = taken_now bs s
+taken_now free s = grind (arith, common_steps)
 
 still_other : (free : List Bool) (s j : ℕ) → get_or (set free s false) j false ≡ true → j ≡ s → ⊥
 still_other free s j e same = true≢false (sym e ∙ ap (λ k. get_or (set free s false) k false) same ∙ taken_now free s)
