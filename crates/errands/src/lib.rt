@@ -4,7 +4,6 @@
 ghost use Rattle.logger.specs.State.{view};
 ghost use Rattle.errands.specs.Errands.{PutOff};
 
-use crate::desk::Desk;
 use clock::alarm::Alarm;
 use fault::Fault;
 use logger::logger::Logger;
@@ -21,6 +20,6 @@ pub fn put_off<A: Alarm>(
     ensures { PutOff (view A.Clock.meaning logger.old) ticket delay result (view A.Clock.meaning logger.new) }
 {
     let slot = ticket.slot();
-    let mut kept = Desk::Holds(ticket);
+    let mut kept = Some(ticket);
     desk::put_off(logger, &mut kept, slot, delay)
 }

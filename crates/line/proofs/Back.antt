@@ -1,5 +1,6 @@
 -- An accepted line has the words of what it is read as, which keeps the limits. Assumes nothing.
 use Rattle.std.proofs.Common.{◌≡◌, ℕ, ◌-◌, ◌^◌, ◌<◌, ◌≤◌, Bool, true, false, cond, ◌&&◌, ltb, leb, List, [], ◌∷◌, get_or, Some, None, Ok, codes, decimal, Option, Result, sym, refl, ap, ◌∙◌, subst, arith}
+use Rattle.std.specs.Option.{ok_or}
 use Rattle.std.proofs.lemmas.Slice.Eq.{bytes_eq-Decides}
 use Rattle.std.proofs.lemmas.Bool.{and_from, and_parts, leb-true, ltb-false, le-leb, lt-ltb}
 use Rattle.fault.specs.declared.Fault.{Fault}
@@ -8,7 +9,7 @@ use Rattle.slots.specs.Limits.{kind_fits, action_fits, period_fits}
 use Rattle.jobs.specs.declared.Kind.{Kind}
 use Rattle.jobs.specs.declared.Action.{Action}
 use Rattle.line.specs.declared.line.Line.{Line}
-use Rattle.line.specs.Line.{Placed, Rest, or_wrong, number_at, limited, slot_at, first_of, next, number, delay, period, once, every, burst, is_word, timing, reads, action, none_of, ending, line_of}
+use Rattle.line.specs.Line.{Placed, Rest, number_at, limited, slot_at, first_of, next, number, delay, period, once, every, burst, is_word, timing, reads, action, none_of, ending, line_of}
 use Rattle.line.specs.Text.{action_words, kind_words, line_words, Lawful}
 use Rattle.line.proofs.Binds.{err_not_ok, same_ok, bind_back, pass_back, stop_back}
 use Rattle.line.proofs.Numbers.{number_back}
@@ -20,9 +21,9 @@ first_back r (w ∷ ws) p e = ap (λ (q : Placed × Rest). q.0.text ∷ q.1.word
 next_back : (r : Rest) (p : Placed × Rest) → next r ≡ Ok p → r.words ≡ p.0.text ∷ p.1.words
 next_back r p e = first_back r r.words p e
 
-wrong_back : (w : Placed) (o : Option ℕ) (n : ℕ) → or_wrong w o ≡ Ok n → o ≡ Some n
-wrong_back w None n e = absurd (err_not_ok e)
-wrong_back w (Some m) n e = ap (λ x. Some x) (same_ok e)
+number_read : (o : Option ℕ) (x : Fault) (n : ℕ) → ok_or o x ≡ Ok n → o ≡ Some n
+number_read None x n e = absurd (err_not_ok e)
+number_read (Some m) x n e = ap (λ k. Some k) (same_ok e)
 
 limited_back : (least most : ℕ) (w : Placed) (n : ℕ) → most < 2 ^ 64 - 1 → limited least most w ≡ Ok n → (w.text ≡ decimal n) × (least ≤ n) × (n ≤ most)
 limited_back least most w n small e =
@@ -32,7 +33,7 @@ limited_back least most w n small e =
     let low : least ≤ b.0 = leb-true least b.0 t.0 in
     let high : b.0 ≤ most = leb-true b.0 most t.1 in
     let same : b.0 ≡ n = p.1 in
-    let read : number_of w.text ≡ Some n = wrong_back w (number_of w.text) b.0 b.1 ∙ ap (λ x. Some x) same in
+    let read : number_of w.text ≡ Some n = number_read (number_of w.text) _ b.0 b.1 ∙ ap (λ x. Some x) same in
     (number_back w.text n read (omega arith), omega arith, omega arith)
 
 -- a number read from the front of what is left
@@ -152,7 +153,7 @@ slot_back free w n e =
     let p = pass_back (get_or free b.0 false) b.0 n _ s.1 in
     let low : b.0 ≤ 31 = ltb-false 31 b.0 s.0 in
     let same : b.0 ≡ n = p.1 in
-    let read : number_of w.text ≡ Some n = wrong_back w (number_of w.text) b.0 b.1 ∙ ap (λ x. Some x) same in
+    let read : number_of w.text ≡ Some n = number_read (number_of w.text) _ b.0 b.1 ∙ ap (λ x. Some x) same in
     (number_back w.text n read (omega arith), omega arith, sym (ap (λ m. get_or free m false) same) ∙ p.0)
 
 -- what an accepted line is

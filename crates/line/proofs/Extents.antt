@@ -1,18 +1,19 @@
 -- The words of a text take up one byte more than it has. Assumes nothing.
-use Rattle.std.proofs.Common.{◌≡◌, ℕ, suc, ◌+◌, Bool, true, false, cond, eqb, List, [], ◌∷◌, length, refl, ◌∙◌, arith}
-use Rattle.words.specs.Words.{onto, words_of}
-use Rattle.line.specs.Extent.{extent}
-use Rattle.words.proofs.Cuts.{words_cut, cut_some}
+use Rattle.std.proofs.Common.{◌≡◌, ℕ, ◌+◌, List, [], ◌∷◌, length, sym, ap, ◌∙◌, arith, length-append}
+use Rattle.std.specs.List.{join_with_byte}
+use Rattle.std.proofs.lemmas.List.Sums.{sum_by-cons}
+use Rattle.std.proofs.lemmas.List.Splits.{join_with_byte-slice_split}
+use Rattle.words.specs.Words.{words_of}
+use Rattle.words.proofs.Cuts.{cut_some}
+use Rattle.line.specs.Line.{extent}
 
-extent_onto : (b : ℕ) (ws : List (List ℕ)) (v : List ℕ) (vs : List (List ℕ)) → ws ≡ v ∷ vs → extent (onto b ws) ≡ suc (extent ws)
-extent_onto b ws v vs e = rw e (omega arith)
+extent_joined : (w : List ℕ) (ws : List (List ℕ)) → extent (w ∷ ws) ≡ length (join_with_byte 32 (w ∷ ws)) + 1
+extent_joined w [] = omega arith
+extent_joined w (v ∷ vs) = simp length-append (omega (arith, sum_by-cons (λ u. length u + 1) w (v ∷ vs), extent_joined v vs))
 
 pub extent_words : (bs : List ℕ) → extent (words_of bs) ≡ length bs + 1
-extent_words [] = refl
-extent_words (b ∷ bs) = at (eqb b 32) (extent_words bs)
-  where
-    at : (t : Bool) → extent (words_of bs) ≡ length bs + 1 → extent (cond t ([] ∷ words_of bs) (onto b (words_of bs))) ≡ suc (length bs) + 1
-    at true h = omega arith
-    at false h =
-        let some = cut_some 32 bs in
-        omega (arith, extent_onto b (words_of bs) some.0 some.1 (words_cut bs ∙ some.2))
+extent_words bs =
+    let some = cut_some 32 bs in
+    ap extent some.2
+    ∙ extent_joined some.0 some.1
+    ∙ ap (λ xs. length xs + 1) (sym (ap (join_with_byte 32) some.2) ∙ join_with_byte-slice_split 32 bs)

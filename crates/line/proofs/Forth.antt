@@ -1,6 +1,8 @@
 -- The words of a line that keeps the limits are read as that line. Assumes nothing.
 use Rattle.std.proofs.Common.{◌≡◌, ℕ, ◌+◌, ◌-◌, ◌^◌, ◌<◌, ◌≤◌, Bool, true, ◌&&◌, ltb, leb, List, [], ◌∷◌, length, Ok, codes, decimal, Result, refl, ap, ◌∙◌, arith}
+use Rattle.std.specs.Option.{ok_or}
 use Rattle.std.proofs.lemmas.Bool.{and_from, and_parts, leb-true, ltb-true, le-leb, le-ltb, cond-true, cond-false}
+use Rattle.fault.specs.declared.Cause.TheVariants.{Grammar}
 use Rattle.fault.specs.declared.Fault.{Fault}
 use Rattle.words.specs.Number.{number_of}
 use Rattle.slots.specs.Limits.{kind_fits, action_fits, period_fits}
@@ -9,7 +11,7 @@ use Rattle.jobs.specs.declared.Kind.TheVariants.{Once, Every, Burst}
 use Rattle.jobs.specs.declared.Action.{Action}
 use Rattle.jobs.specs.declared.Action.TheVariants.{Read, Mark}
 use Rattle.line.specs.declared.line.Line.{Line}
-use Rattle.line.specs.Line.{◌>>=◌, Placed, Rest, or_wrong, number_at, limited, slot_at, first_of, next, number, delay, period, once, every, burst, timing, reads, action, ending, line_of}
+use Rattle.line.specs.Line.{◌>>=◌, Placed, Rest, fault_at, number_at, limited, slot_at, first_of, next, number, delay, period, once, every, burst, timing, reads, action, ending, line_of}
 use Rattle.line.specs.Text.{action_words, kind_words, line_words, Lawful}
 use Rattle.line.proofs.Binds.{bind_ok}
 use Rattle.line.proofs.Numbers.{number_decimal}
@@ -25,7 +27,7 @@ next_forth : (r : Rest) (w : List ℕ) (ws : List (List ℕ)) → r.words ≡ w 
 next_forth r w ws e = ap (first_of r) e
 
 number_forth : (r : Rest) (w : List ℕ) (n : ℕ) → n < 2 ^ 64 → w ≡ decimal n → number_at (word_at r w) ≡ Ok n
-number_forth r w n h e = ap (or_wrong (word_at r w)) (ap number_of e ∙ number_decimal n h)
+number_forth r w n h e = ap (λ o. ok_or o (fault_at Grammar (word_at r w))) (ap number_of e ∙ number_decimal n h)
 
 numbered : (least most : ℕ) (r : Rest) (n : ℕ) (ws : List (List ℕ)) → most < 2 ^ 64 → least ≤ n → n ≤ most → r.words ≡ decimal n ∷ ws → number least most r ≡ Ok (n, after r (decimal n) ws)
 numbered least most r n ws small low high e =

@@ -1,11 +1,13 @@
 -- The words of a line have neither spaces nor line ends in them. Assumes nothing.
-use Rattle.std.proofs.Common.{◌≡◌, ℕ, ◌^◌, ◌<◌, ◌≤◌, Bool, true, false, ◌&&◌, eqb, leb, List, [], ◌∷◌, decimal, refl, ◌∙◌, arith}
-use Rattle.std.specs.List.{AllByRecursion}
+use Rattle.std.proofs.Common.{◌≡◌, ℕ, ◌^◌, ◌<◌, ◌≤◌, Bool, true, false, eqb, leb, List, [], ◌∷◌, decimal, refl, arith}
+use Rattle.std.specs.Char.{is_ascii_digit}
+use Rattle.std.specs.List.{AllByRecursion, join_with_byte, list_all}
 use Rattle.std.proofs.lemmas.Fmt.{digits_decimal}
-use Rattle.std.proofs.ByRecursion.{All-append, All-weaker}
+use Rattle.std.proofs.ByRecursion.{All-weaker as Each-weaker}
+use Rattle.std.proofs.lemmas.List.Elements.{All-nil, All-cons, All-append, All-weaker}
+use Rattle.std.proofs.lemmas.List.Sums.{AllPass-from_list_all}
 use Rattle.std.proofs.lemmas.Bool.{and_from, and_parts, leb-true, ne_eqb}
-use Rattle.words.specs.Number.{digit, digits}
-use Rattle.words.specs.Cuts.{joined_by}
+use Rattle.words.specs.Number.{digits}
 use Rattle.words.specs.Words.{words_of}
 use Rattle.jobs.specs.declared.Kind.{Kind}
 use Rattle.jobs.specs.declared.Kind.TheVariants.{Once, Every, Burst}
@@ -13,27 +15,22 @@ use Rattle.jobs.specs.declared.Action.{Action}
 use Rattle.jobs.specs.declared.Action.TheVariants.{Read, Mark}
 use Rattle.line.specs.declared.line.Line.{Line}
 use Rattle.line.specs.Text.{action_words, kind_words, line_words, line_text}
-use Rattle.words.proofs.Cuts.{Lacks, words_cut, cut_joined}
+use Rattle.words.proofs.Cuts.{Lacks, cut_joined}
 use Rattle.line.proofs.Numbers.{own}
 
 -- digits and letters stand from 48 on
 abbrev above : List ℕ → Bool
-above [] = true
-above (b ∷ bs) = leb 48 b && above bs
+above bs = list_all (leb 48) bs
 
 lacks_above : (c : ℕ) (bs : List ℕ) → c < 48 → above bs ≡ true → Lacks c bs
-lacks_above c [] h e = tt
-lacks_above c (b ∷ bs) h e =
-    let p = and_parts (leb 48 b) (above bs) e in
-    let low : 48 ≤ b = leb-true 48 b p.0 in (
-      ne_eqb b c (λ same. omega arith),
-      lacks_above c bs h p.1,
-    )
+lacks_above c bs h e =
+    All-weaker (λ b. leb 48 b ≡ true) (λ b. eqb b c ≡ false) (λ b up. let low : 48 ≤ b = leb-true 48 b up in ne_eqb b c (λ same. omega arith))
+    bs (AllPass-from_list_all (leb 48) bs e)
 
 above_digits : (bs : List ℕ) → digits bs ≡ true → above bs ≡ true
 above_digits [] h = refl
 above_digits (b ∷ bs) h =
-    let p = and_parts (digit b) (digits bs) h in
+    let p = and_parts (is_ascii_digit b) (digits bs) h in
     and_from _ _ (and_parts (leb 48 b) _ p.0).0 (above_digits bs p.1)
 
 above_decimal : (n : ℕ) → n < 2 ^ 64 → above (decimal n) ≡ true
@@ -71,17 +68,17 @@ clean_line : (l : Line) → Small l → Clean (line_words l)
 clean_line l s = (above_decimal l.slot s.slot, clean_kind l.job.kind l.delay _ s.kind s.delay (clean_action l.job.action s.action))
 
 clean_lacks : (c : ℕ) (ws : List (List ℕ)) → c < 48 → Clean ws → AllByRecursion (Lacks c) ws
-clean_lacks c ws h m = All-weaker (λ w. above w ≡ true) (Lacks c) (λ w e. lacks_above c w h e) ws m
+clean_lacks c ws h m = Each-weaker (λ w. above w ≡ true) (Lacks c) (λ w e. lacks_above c w h e) ws m
 
-joined_lacks : (c : ℕ) (ps : List (List ℕ)) → eqb 32 c ≡ false → AllByRecursion (Lacks c) ps → Lacks c (joined_by 32 ps)
-joined_lacks c [] n h = tt
+joined_lacks : (c : ℕ) (ps : List (List ℕ)) → eqb 32 c ≡ false → AllByRecursion (Lacks c) ps → Lacks c (join_with_byte 32 ps)
+joined_lacks c [] n h = All-nil _
 joined_lacks c (p ∷ []) n h = h.0
 joined_lacks c (p ∷ (q ∷ qs)) n h =
-    All-append (λ b. eqb b c ≡ false) p (32 ∷ joined_by 32 (q ∷ qs)) h.0 (n, joined_lacks c (q ∷ qs) n h.1)
+    All-append (λ b. eqb b c ≡ false) p (32 ∷ join_with_byte 32 (q ∷ qs)) h.0
+    (All-cons (λ b. eqb b c ≡ false) 32 (join_with_byte 32 (q ∷ qs)) n (joined_lacks c (q ∷ qs) n h.1))
 
 pub line_text_words : (l : Line) → Small l → words_of (line_text l) ≡ line_words l
-line_text_words l s =
-    words_cut (line_text l) ∙ cut_joined 32 _ _ refl (clean_lacks 32 (line_words l) (omega arith) (clean_line l s))
+line_text_words l s = cut_joined 32 _ _ (clean_lacks 32 (line_words l) (omega arith) (clean_line l s))
 
 pub line_text_lacks : (l : Line) → Small l → Lacks 10 (line_text l)
 line_text_lacks l s = joined_lacks 10 (line_words l) refl (clean_lacks 10 (line_words l) (omega arith) (clean_line l s))

@@ -1,6 +1,7 @@
 -- One line of a script: what each of its words must be, the fault where one is not, and the line that they are read as.
 -- Assumes nothing.
-use Rattle.std.specs.Prelude.{ℕ, ◌+◌, ◌-◌, ◌^◌, min, Bool, false, cond, ◌&&◌, List, [], ◌∷◌, length, drop, Some, None, Ok, Err, codes, Option, Result, nat_le, nat_lt, slice_index_or}
+use Rattle.std.specs.Prelude.{ℕ, ◌+◌, ◌-◌, ◌^◌, min, Bool, false, cond, ◌&&◌, List, [], ◌∷◌, length, drop, Ok, Err, codes, Result, nat_le, nat_lt, slice_index_or, sum_by}
+use Rattle.std.specs.Option.{ok_or}
 use Rattle.std.specs.Str.{bytes_eq}
 use Rattle.fault.specs.declared.Cause.{Cause}
 use Rattle.fault.specs.declared.Cause.TheVariants.{NoSlot, Taken, OutOfLimits, Grammar}
@@ -34,6 +35,15 @@ pub record Rest : Type 0 where
   pub end : ℕ
   pub words : List (List ℕ)
 
+-- how many bytes words take up, each with the byte that ends it
+abbrev pub extent : List (List ℕ) → ℕ
+extent ws = sum_by (λ w. length w + 1) ws
+
+-- what was read, with what is left of the line
+abbrev pub and_rest : {A : Type 0} → Result A Fault → Rest → Result (A × Rest) Fault
+and_rest (Ok a) r = Ok (a, r)
+and_rest (Err e) r = Err e
+
 -- line n, which begins at this byte
 abbrev pub whole_line : ℕ → ℕ → List ℕ → Rest
 whole_line n byte text = record { line = n; byte = byte; end = byte + length text; words = words_of text }
@@ -42,12 +52,8 @@ abbrev pub fault_at : Cause → Placed → Fault
 fault_at cause w = in_script cause w.line w.byte
 
 -- a number of any size
-abbrev pub or_wrong : Placed → Option ℕ → Result ℕ Fault
-or_wrong w None = Err (fault_at Grammar w)
-or_wrong w (Some n) = Ok n
-
 abbrev pub number_at : Placed → Result ℕ Fault
-number_at w = or_wrong w (number_of w.text)
+number_at w = ok_or (number_of w.text) (fault_at Grammar w)
 
 -- a number that lies within limits
 abbrev pub limited : ℕ → ℕ → Placed → Result ℕ Fault

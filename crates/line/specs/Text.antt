@@ -1,7 +1,7 @@
 -- The text of a line, and which lines may be written.
 -- Assumes nothing.
 use Rattle.std.specs.Prelude.{◌≡◌, ℕ, ◌<◌, Bool, true, false, List, [], ◌∷◌, codes, decimal, slice_index_or}
-use Rattle.words.specs.Cuts.{joined_by}
+use Rattle.std.specs.List.{join_with_byte}
 use Rattle.slots.specs.Limits.{job_fits}
 use Rattle.jobs.specs.declared.Kind.{Kind}
 use Rattle.jobs.specs.declared.Kind.TheVariants.{Once, Every, Burst}
@@ -24,7 +24,7 @@ line_words l = decimal l.slot ∷ kind_words l.job.kind l.delay (action_words l.
 
 -- one space between two words
 abbrev pub line_text : Line → List ℕ
-line_text l = joined_by 32 (line_words l)
+line_text l = join_with_byte 32 (line_words l)
 
 -- a line for a slot that is free, with a job within the limits of a set-up
 abbrev pub Lawful : List Bool → Line → Type 0

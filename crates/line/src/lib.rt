@@ -26,16 +26,7 @@ pub fn line_at(
     ensures { result ≡ line_at number start free.now script.now }
 {
     let start = start.min(script.len());
-    let text = text_at(script, start);
+    let text = piece(&script[start..], b'\n');
     let line = Cursor::of(text, number, start).line(free)?;
     Ok((line, start + text.len()))
-}
-
-// The bytes of that line.
-fn text_at(script: &[u8], start: usize) -> &[u8]
-    requires { start ≤ length script.now }
-    ensures text { result.now ≡ first_piece 10 (drop start script.now) }
-    ensures within { start + length result.now ≤ length script.now }
-{
-    piece(&script[start..], b'\n')
 }

@@ -1,5 +1,5 @@
 -- Jobs within their limits: one slot of a table, a slot that is written, a slot that fired; and its next due moment within 64 bits. Assumes nothing.
-use Rattle.std.proofs.Common.{◌≡◌, ℕ, zero, suc, ◌+◌, ◌-◌, ◌^◌, ◌<◌, min, Bool, true, false, cond, ◌&&◌, ltb, leb, List, [], ◌∷◌, get_or, set, refl, ap, arith}
+use Rattle.std.proofs.Common.{◌≡◌, ℕ, zero, suc, ◌+◌, ◌-◌, ◌^◌, ◌<◌, min, Bool, true, false, cond, ◌&&◌, ltb, leb, List, [], ◌∷◌, get_or, set, Some, None, refl, ap, arith}
 use Rattle.std.proofs.lemmas.Bool.{and_parts, and_from, leb-true, ltb-true, le-leb}
 use Rattle.jobs.specs.declared.Slot.{Slot}
 use Rattle.jobs.specs.declared.Slot.TheVariants.{Free, Standing, Waiting}
@@ -8,7 +8,7 @@ use Rattle.jobs.specs.declared.Kind.{Kind}
 use Rattle.jobs.specs.declared.Kind.TheVariants.{Once, Every, Burst}
 use Rattle.jobs.specs.declared.Action.{Action}
 use Rattle.slots.specs.Limits.{period_fits, kind_fits}
-use Rattle.slots.specs.Slots.{again, fired, capped}
+use Rattle.slots.specs.Slots.{stand_on, again, fired, capped}
 use Rattle.logger.specs.Within.{slot_fits, table_fits, Reached}
 
 pub fits_at : (slots : List Slot) (j : ℕ) → table_fits slots ≡ true → slot_fits (get_or slots j Free) ≡ true
@@ -38,7 +38,7 @@ fits_again due action (Every period) h = h
 fits_again due action (Burst count period) h = by (ltb 1 count) refl
   where
     by : (b : Bool) → ltb 1 count ≡ b
-        → slot_fits (cond b (Standing (due + period) (record { kind = Burst (count - 1) period; action = action }) false) Free) ≡ true
+        → slot_fits (stand_on due action (cond b (Some (period, Burst (count - 1) period)) None)) ≡ true
     by true t = fewer count period h (ltb-true 1 count t)
     by false t = refl
 
@@ -64,8 +64,10 @@ low_again due action (Burst count period) low h = by (ltb 1 count)
     fits : period_fits period ≡ true
     fits = (and_parts (leb 1 count && leb count 65535) (period_fits period) h).1
 
-    by : (b : Bool) → capped (cond b (Standing (due + period) (record { kind = Burst (count - 1) period; action = action }) false) Free)
-        ≡ cond b (Standing (due + period) (record { kind = Burst (count - 1) period; action = action }) false) Free
+    on : Bool → Slot
+    on b = stand_on due action (cond b (Some (period, Burst (count - 1) period)) None)
+
+    by : (b : Bool) → capped (on b) ≡ on b
     by true = low_standing (due + period) _ (low_period due period low fits)
     by false = refl
 

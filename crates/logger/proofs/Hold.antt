@@ -1,5 +1,5 @@
 -- The law of hold: the distance that it waits for is the smallest of the standing slots. Assumes nothing.
-use Rattle.std.proofs.Common.{◌≡◌, ℕ, ◌<◌, Bool, true, false, cond, eqb, ◌⊎◌, Some, None, Option, refl, inl, inr, arith}
+use Rattle.std.proofs.Common.{◌≡◌, ℕ, ◌<◌, Bool, true, false, cond, eqb, ◌⊎◌, Some, None, Option, sym, refl, subst, inl, inr, arith}
 use Rattle.std.proofs.lemmas.Bool.{eqb-true, eqb-false}
 use Rattle.clock.specs.Hold.{wait_for, Waits}
 use Rattle.clock.proofs.Waiting.{waits}
@@ -19,3 +19,6 @@ hold_law l = by (nearest l.moment l.slots) (answered l.moment l.slots)
     by : (o : Option ℕ) → Answer l.moment l.slots o → HoldLaw l (held_for l.stack o)
     by None a = inl (a, refl)
     by (Some left) a = inr (left, record { place = a.place; stands = a.stands; least = a.least }, wait left (eqb left 0) refl)
+
+pub law_of_answer : {X : Type 0} (l : Log X) (n : ℕ) → n ≡ hold_answer l → HoldLaw l n
+law_of_answer l n e = subst (HoldLaw l) (sym e) (hold_law l)

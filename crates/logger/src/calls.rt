@@ -15,11 +15,11 @@ use clock::wait::ticks_until;
 use fault::{Cause, Fault};
 use jobs::{Action, Firing, Job, Kind, Outcome, Slot};
 use slots::moment::Moment;
-use slots::{call_off, fire, set_up, settle};
+use slots::{Entry, Terms};
 use table::Table;
 
 // The last moment at which a sample is still taken, 2^62 - 2^32: a sample brings fewer than 2^32 ticks.
-const LAST_SERVED: u64 = 4_611_686_014_132_420_608;
+const LAST_SERVED: u64 = (1 << 62) - (1 << 32);
 
 // The ticks that a sample brings, fewer than 2^32 since they are no more than the true ticks.
 fn taken<A: Alarm>(alarm: &mut A, sample: A::Sample) -> Result<u64, Fault>
@@ -43,6 +43,7 @@ impl<A: Alarm> Logger<A> {
     }
 
     // Puts a slot into a state.
+    #[tactic(auto, using(crate::proofs::Fitting::fits_set))]
     fn put(&mut self, slot: usize, state: Slot)
         requires { slot_fits state ≡ true }
         ensures { view A.Clock.meaning self.new ≡ with_slot (view A.Clock.meaning self.old) slot state }
@@ -62,29 +63,24 @@ impl<A: Alarm> Logger<A> {
         Ok(self.moment.ticks)
     }
 
-    fn stand(
-        &mut self,
-        slot: usize,
-        reference: u64,
-        delay: u64,
-        job: Job,
-        errand: bool,
-    ) -> Result<u64, Fault>
-        ensures answer { result ≡ set_up_slot self.old.moment.ticks slot (slot_of (view A.Clock.meaning self.old) slot) reference delay job }
-        ensures after { view A.Clock.meaning self.new ≡ after_set_up (view A.Clock.meaning self.old) slot job errand result }
+    // A slot by its number.
+    fn entry(&self, slot: usize) -> Entry
+        ensures { result ≡ record { slot = slot; state = slot_of (view A.Clock.meaning self.now) slot } }
     {
-        let answer = set_up(
-            self.table.state(slot),
-            self.moment,
+        Entry {
             slot,
-            reference,
-            delay,
-            job,
-        );
-        if let Ok(due) = answer {
-            self.put(slot, Slot::Standing { due, job, errand });
+            state: self.table.state(slot),
         }
-        answer
+    }
+
+    fn stand(&mut self, slot: usize, terms: Terms, errand: bool) -> Result<u64, Fault>
+        ensures answer { result ≡ set_up_slot self.old.moment.ticks slot (slot_of (view A.Clock.meaning self.old) slot) terms.reference terms.delay terms.job }
+        ensures after { view A.Clock.meaning self.new ≡ after_set_up (view A.Clock.meaning self.old) slot terms.job errand result }
+    {
+        let due = self.entry(slot).set_up(self.moment, terms)?;
+        let job = terms.job;
+        self.put(slot, Slot::Standing { due, job, errand });
+        Ok(due)
     }
 
     // Sets a job up in a free slot, first due a delay after the reference; answers that moment.
@@ -97,18 +93,21 @@ impl<A: Alarm> Logger<A> {
     ) -> Result<u64, Fault>
         ensures { SetUp (view A.Clock.meaning self.old) slot reference delay job result (view A.Clock.meaning self.new) }
     {
-        self.stand(slot, reference, delay, job, false)
+        let terms = Terms {
+            reference,
+            delay,
+            job,
+        };
+        self.stand(slot, terms, false)
     }
 
     // Frees a slot that stands; answers the moment at which it would have been due next.
     pub fn call_off(&mut self, slot: usize) -> Result<u64, Fault>
         ensures { CalledOff (view A.Clock.meaning self.old) slot result (view A.Clock.meaning self.new) }
     {
-        let answer = call_off(self.table.state(slot), slot);
-        if answer.is_ok() {
-            self.put(slot, Slot::Free);
-        }
-        answer
+        let due = self.entry(slot).call_off()?;
+        self.put(slot, Slot::Free);
+        Ok(due)
     }
 
     // The slot that is to fire, where one is due.
@@ -119,16 +118,20 @@ impl<A: Alarm> Logger<A> {
     }
 
     // The firing of a slot that is due, and the state that it leaves.
+    #[tactic(auto, using(crate::proofs::Fitting::fits_at, crate::proofs::Fitting::low_fired, crate::proofs::Fitting::fits_fired))]
     fn firing(&self, slot: usize) -> (Option<Firing>, Slot)
         requires { Reached self.now.moment.ticks (slot_of (view A.Clock.meaning self.now) slot) }
         ensures answer { result ≡ (coming self.now.moment.ticks slot (slot_of (view A.Clock.meaning self.now) slot), fired (slot_of (view A.Clock.meaning self.now) slot)) }
         ensures limits { slot_fits result.1 ≡ true }
     {
-        fire(self.table.state(slot), self.moment, slot)
+        self.entry(slot).fire(self.moment)
     }
 
-    fn advance(&mut self) -> Option<Firing>
-        ensures { Nexted (view A.Clock.meaning self.old) result (view A.Clock.meaning self.new) }
+    // The next firing that is due, or none. To be called until it answers none.
+    #[tactic(auto, using(crate::proofs::Next::law_of_answer))]
+    pub fn next(&mut self) -> Option<Firing>
+        ensures answer { Nexted (view A.Clock.meaning self.old) result (view A.Clock.meaning self.new) }
+        ensures law { NextLaw (view A.Clock.meaning self.old) result }
     {
         let slot = self.ready()?;
         let (firing, after) = self.firing(slot);
@@ -136,24 +139,10 @@ impl<A: Alarm> Logger<A> {
         firing
     }
 
-    // The next firing that is due, or none. To be called until it answers none.
-    pub fn next(&mut self) -> Option<Firing>
-        ensures answer { Nexted (view A.Clock.meaning self.old) result (view A.Clock.meaning self.new) }
-        ensures law { NextLaw (view A.Clock.meaning self.old) result }
-    {
-        self.advance()
-    }
-
     // How many true ticks may pass before the next sample, so that the next firing comes on its moment.
     pub fn hold(&mut self) -> u64
         ensures answer { Held (view A.Clock.meaning self.old) result (view A.Clock.meaning self.new) }
         ensures law { HoldLaw (view A.Clock.meaning self.old) result }
-    {
-        self.wait()
-    }
-
-    fn wait(&mut self) -> u64
-        ensures { Held (view A.Clock.meaning self.old) result (view A.Clock.meaning self.new) }
     {
         match self.table.nearest(self.moment.ticks) {
             Some(0) => 0,
@@ -172,11 +161,15 @@ impl<A: Alarm> Logger<A> {
     ) -> Result<Ticket, Fault>
         ensures { Erranded (view A.Clock.meaning self.old) slot reference delay action result (view A.Clock.meaning self.new) }
     {
-        let job = Job {
-            kind: Kind::Once,
-            action,
+        let terms = Terms {
+            reference,
+            delay,
+            job: Job {
+                kind: Kind::Once,
+                action,
+            },
         };
-        self.stand(slot, reference, delay, job, true)?;
+        self.stand(slot, terms, true)?;
         Ok(Ticket {
             number: self.number,
             slot,
@@ -193,10 +186,8 @@ impl<A: Alarm> Logger<A> {
         if ticket.number != self.number {
             return Err(Fault::in_slot(Cause::ForeignTicket, slot));
         }
-        let answer = settle(self.table.state(slot), slot);
-        if answer.is_ok() {
-            self.put(slot, Slot::Free);
-        }
-        answer
+        let outcome = self.entry(slot).settle()?;
+        self.put(slot, Slot::Free);
+        Ok(outcome)
     }
 }

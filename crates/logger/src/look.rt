@@ -4,10 +4,7 @@ ghost use Rattle.logger.specs.Look.{look_answer};
 
 use crate::logger::Logger;
 use fault::{Cause, Fault};
-use jobs::Slot;
-
-// The slots are numbered from 0 up to this.
-const LAST: usize = 31;
+use jobs::{LAST_SLOT, Slot};
 
 impl<A> Logger<A> {
     // The number that its tickets carry.
@@ -28,7 +25,7 @@ impl<A> Logger<A> {
     pub fn slot(&self, slot: usize) -> Result<Slot, Fault>
         ensures { result ≡ look_answer self.now.table slot }
     {
-        if slot > LAST {
+        if slot > LAST_SLOT {
             return Err(Fault::in_slot(Cause::NoSlot, slot));
         }
         Ok(self.table.state(slot))

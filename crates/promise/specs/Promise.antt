@@ -6,7 +6,7 @@ use Rattle.jobs.specs.declared.Slot.{Slot}
 use Rattle.jobs.specs.declared.Job.{Job}
 use Rattle.jobs.specs.declared.Firing.{Firing}
 use Rattle.logger.specs.State.{Log}
-use Rattle.slots.specs.Slots.{taken}
+use Rattle.jobs.specs.Jobs.{taken}
 use Rattle.promise.specs.Runs.{Event, serve, next, Run, Emptied}
 use Rattle.promise.specs.Words.{brought, shared, seen, DueMoment, true_ticks, At, FirstEmptying, AsHeld, SetUpAt, NoEnd, ReachedBy, ReportedAt}
 

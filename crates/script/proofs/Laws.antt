@@ -1,10 +1,12 @@
 -- A script is accepted exactly when it is the text of lawful lines, which it is read as. Assumes nothing.
-use Rattle.std.proofs.Common.{◌≡◌, ℕ, zero, suc, ◌+◌, ◌^◌, ◌<◌, Bool, true, false, cond, ◌&&◌, ltb, leb, List, [], ◌∷◌, ◌++◌, length, get_or, set, Ok, count_by, sym, refl, ap, ◌∙◌, subst, arith}
-use Rattle.std.specs.List.{AllByRecursion}
+use Rattle.std.proofs.Common.{◌≡◌, ℕ, ◌+◌, ◌^◌, ◌<◌, Bool, true, false, cond, ◌&&◌, eqb, ltb, leb, List, [], ◌∷◌, ◌++◌, length, get_or, set, Ok, count_by, sym, refl, ap, ◌∙◌, subst, arith}
+use Rattle.std.specs.List.{AllByRecursion, join_with_byte}
+use Rattle.std.proofs.lemmas.Grind.{common_steps}
 use Rattle.std.proofs.lemmas.List.{get_or-set_other}
+use Rattle.std.proofs.lemmas.List.Splits.{slice_split_at, join_with_byte-slice_split}
 use Rattle.std.proofs.lemmas.List.Sums.{sum_by-set}
 use Rattle.std.proofs.lemmas.Bool.{and_parts, leb-true, ltb-true, true≢false}
-use Rattle.words.specs.Cuts.{cut, joined_by}
+use Rattle.words.specs.Cuts.{cut}
 use Rattle.slots.specs.Limits.{kind_fits, action_fits, period_fits}
 use Rattle.jobs.specs.declared.Kind.{Kind}
 use Rattle.jobs.specs.declared.Kind.TheVariants.{Once, Every, Burst}
@@ -17,7 +19,7 @@ use Rattle.line.specs.Text.{line_text, Lawful}
 use Rattle.script.specs.Text.{script_text, Different, Law}
 use Rattle.line.proofs.Back.{lined}
 use Rattle.line.proofs.Binds.{err_not_ok, same_ok, bind_ok, bind_back}
-use Rattle.words.proofs.Cuts.{cut_some, cut_front, joined_cut}
+use Rattle.words.proofs.Cuts.{cut_some}
 use Rattle.line.proofs.Forth.{line_forth}
 use Rattle.line.proofs.Letters.{Small, kind_small, action_small, line_text_words, line_text_lacks}
 use Rattle.script.proofs.Pieces.{from_more}
@@ -49,9 +51,7 @@ small free l law =
 
 -- a slot that is free after slot s was taken
 taken_now : (free : List Bool) (s : ℕ) → get_or (set free s false) s false ≡ false
-taken_now [] s = refl
-taken_now (b ∷ bs) zero = refl
-taken_now (b ∷ bs) (suc s) = taken_now bs s
+taken_now free s = grind (arith, common_steps)
 
 still_other : (free : List Bool) (s j : ℕ) → get_or (set free s false) j false ≡ true → j ≡ s → ⊥
 still_other free s j e same = true≢false (sym e ∙ ap (λ k. get_or (set free s false) k false) same ∙ taken_now free s)
@@ -75,7 +75,7 @@ script_forth [] n at free h d = refl
 script_forth (l ∷ ls) n at free h d =
     let s = small free l h.0 in
     let some = cut_some 10 (script_text ls) in
-    let pieces = cut_front 10 (line_text l) (script_text ls) (line_text_lacks l s) refl in
+    let pieces = slice_split_at (λ b. eqb b 10) (line_text l) 10 (script_text ls) (line_text_lacks l s) refl in
     let rest = script_forth ls (n + 1) (at + (length (line_text l) + 1)) (set free l.slot false) (lawful_later free l.slot ls h.1 d.0) d.1 in
     from_more n at free _ (line_text l) some.0 some.1 (pieces ∙ ap (λ ps. line_text l ∷ ps) some.2)
     ∙ bind_ok _ (line_forth free (whole_line n at (line_text l)) l h.0 (line_text_words l s))
@@ -91,7 +91,7 @@ last_back : (n at : ℕ) (free : List Bool) (p : List ℕ) (ls : List Line) → 
 last_back n at free [] ls e = let W : List Line → Type 0 = λ ms. Written free [] ms in subst W (same_ok e) (record { is = refl; lawful = tt; different = tt })
 last_back n at free (b ∷ bs) ls e = absurd (err_not_ok (bind_back (line_of free (whole_line n at (b ∷ bs))) _ ls e).2)
 
-script_back : (ps : List (List ℕ)) (n at : ℕ) (free : List Bool) (ls : List Line) → script_from n at free ps ≡ Ok ls → Written free (joined_by 10 ps) ls
+script_back : (ps : List (List ℕ)) (n at : ℕ) (free : List Bool) (ls : List Line) → script_from n at free ps ≡ Ok ls → Written free (join_with_byte 10 ps) ls
 script_back [] n at free ls e = let W : List Line → Type 0 = λ ms. Written free [] ms in subst W (same_ok e) (record { is = refl; lawful = tt; different = tt })
 script_back (p ∷ []) n at free ls e = last_back n at free p ls e
 script_back (p ∷ (q ∷ qs)) n at free ls e =
@@ -101,10 +101,10 @@ script_back (p ∷ (q ∷ qs)) n at free ls e =
     let here = lined free (whole_line n at p) l b.1 in
     let more = script_back (q ∷ qs) (n + 1) (at + (length p + 1)) (set free l.slot false) c.0 c.1 in
     let before = lawful_before free l.slot c.0 more.lawful in
-    let text : p ≡ line_text l = sym (joined_cut 32 p) ∙ ap (joined_by 32) here.words in
-    let W : List Line → Type 0 = λ ms. Written free (joined_by 10 (p ∷ (q ∷ qs))) ms in
+    let text : p ≡ line_text l = sym (join_with_byte-slice_split 32 p) ∙ ap (join_with_byte 32) here.words in
+    let W : List Line → Type 0 = λ ms. Written free (join_with_byte 10 (p ∷ (q ∷ qs))) ms in
     subst W (same_ok c.2) (record {
-      is = ap (λ x. x ++ (10 ∷ joined_by 10 (q ∷ qs))) text ∙ ap (λ x. line_text l ++ (10 ∷ x)) more.is;
+      is = ap (λ x. x ++ (10 ∷ join_with_byte 10 (q ∷ qs))) text ∙ ap (λ x. line_text l ++ (10 ∷ x)) more.is;
       lawful = (here.lawful, before.0);
       different = (before.1, more.different);
     })
@@ -114,7 +114,7 @@ law free text = record {
   accepted = λ ls w. ap (script_of free) w.is ∙ script_forth ls 1 0 free w.lawful w.different;
   written = λ ls e.
       let b = script_back (cut 10 text) 1 0 free ls e in
-      record { is = sym (joined_cut 10 text) ∙ b.is; lawful = b.lawful; different = b.different };
+      record { is = sym (join_with_byte-slice_split 10 text) ∙ b.is; lawful = b.lawful; different = b.different };
 }
 
 -- how many slots are free

@@ -4,7 +4,8 @@ use Rattle.std.specs.List.{AllByRecursion}
 use Rattle.std.proofs.lemmas.List.{map-set}
 use Rattle.std.proofs.lemmas.Bool.{cond-true, cond-false, le-ltb, not-true}
 use Rattle.fault.specs.declared.Fault.{Fault}
-use Rattle.slots.specs.Slots.{taken, set_up_slot}
+use Rattle.jobs.specs.Jobs.{taken, is_free}
+use Rattle.slots.specs.Slots.{set_up_slot}
 use Rattle.logger.specs.State.{Log, slot_of, with_slot}
 use Rattle.logger.specs.Calls.{after_set_up, SetUp}
 use Rattle.jobs.specs.declared.Slot.{Slot}
@@ -12,7 +13,7 @@ use Rattle.jobs.specs.declared.Slot.TheVariants.{Free, Standing}
 use Rattle.line.specs.declared.line.Line.{Line}
 use Rattle.script.specs.declared.lines.Script.{Script}
 use Rattle.script.specs.Lines.{lines_of, read_as}
-use Rattle.script.specs.Load.{is_free, free_slots, lines_for, set_up_all}
+use Rattle.script.specs.Load.{free_slots, lines_for, set_up_all}
 use Rattle.script.specs.Script.{script_of}
 use Rattle.line.specs.Text.{Lawful}
 use Rattle.script.specs.Text.{Different}

@@ -1,13 +1,14 @@
 -- One line of a script taken off its front. Assumes nothing.
-use Rattle.std.proofs.Common.{◌≡◌, ℕ, ◌+◌, ◌-◌, ◌<◌, ◌≤◌, min, Bool, true, false, cond, ltb, List, [], ◌∷◌, ◌++◌, length, drop, set, Ok, Err, Result, sym, refl, ap, ◌∙◌, ⊎_elim, append_assoc, arith, length-drop}
-use Rattle.std.specs.List.{prefix_len}
+use Rattle.std.proofs.Common.{◌≡◌, ℕ, ◌+◌, ◌-◌, ◌<◌, ◌≤◌, min, Bool, true, false, not, cond, eqb, ltb, List, [], ◌∷◌, ◌++◌, length, drop, set, Ok, Err, Result, sym, refl, ap, ◌∙◌, ⊎_elim, append_assoc, arith, length-drop}
+use Rattle.std.specs.List.{position_or_len}
 use Rattle.std.proofs.lemmas.List.{take_all, drop-drop, length-take-le}
+use Rattle.std.proofs.lemmas.List.Splits.{slice_split_first}
 use Rattle.std.proofs.lemmas.List.Sums.{prefix_len-le-length}
 use Rattle.std.proofs.lemmas.Bool.{cases_lt, ltb-true, ltb-false}
 use Rattle.fault.specs.declared.Fault.{Fault}
 use Rattle.fault.specs.Table.{against_grammar}
-use Rattle.words.specs.Cuts.{cut, other, first_piece}
-use Rattle.words.proofs.Cuts.{cut_some, cut_last, cut_more}
+use Rattle.words.specs.Cuts.{cut, first_piece}
+use Rattle.words.proofs.Cuts.{cut_some, cut_last}
 use Rattle.line.specs.declared.line.Line.{Line}
 use Rattle.line.specs.Line.{◌>>=◌, line_of, line_from, line_at, whole_line}
 use Rattle.line.specs.Text.{Lawful}
@@ -56,7 +57,7 @@ module _ (n at : ℕ) (free : List Bool) (text : List ℕ) (inside : at < length
   rest = drop at text
 
   abbrev size : ℕ
-  size = prefix_len (other 10) rest
+  size = position_or_len (λ b. eqb b 10) rest
 
   abbrev piece : List ℕ
   piece = first_piece 10 rest
@@ -65,7 +66,7 @@ module _ (n at : ℕ) (free : List Bool) (text : List ℕ) (inside : at < length
   rest_is = length-drop at text
 
   piece_is : length piece ≡ size
-  piece_is = length-take-le size rest (prefix_len-le-length (other 10) rest)
+  piece_is = length-take-le size rest (prefix_len-le-length (λ b. not (eqb b 10)) rest)
 
   here : line_at n at free text ≡ line_from n at free text
   here = let same : min at (length text) ≡ at = omega arith in ap (λ b. line_from n b free text) same
@@ -84,11 +85,11 @@ module _ (n at : ℕ) (free : List Bool) (text : List ℕ) (inside : at < length
       record {
         right = b.1 ∙ ap (λ (q : Line × ℕ). Ok q.0) pair;
         ends = ends;
-        within = omega (arith, ends, rest_is, prefix_len-le-length (other 10) rest);
+        within = omega (arith, ends, rest_is, prefix_len-le-length (λ b. not (eqb b 10)) rest);
       }
 
   cut_here : size < length rest → cut 10 rest ≡ piece ∷ cut 10 (drop (at + (size + 1)) text)
-  cut_here h = cut_more 10 rest h ∙ ap (λ bs. piece ∷ cut 10 bs) (drop-drop (size + 1) at text)
+  cut_here h = slice_split_first (λ b. eqb b 10) rest 0 h ∙ ap (λ bs. piece ∷ cut 10 bs) (drop-drop (size + 1) at text)
 
   cut_there : length rest ≤ size → cut 10 rest ≡ piece ∷ []
   cut_there h = cut_last 10 rest h ∙ ap (λ p. p ∷ []) (sym (take_all size rest h))
@@ -135,23 +136,24 @@ module _ (n at : ℕ) (free : List Bool) (text : List ℕ) (inside : at < length
   -- a line that was taken, and what is left to read
   pub record Taken (l : Line) (end : ℕ) : Type 0 where
     pub from : at ≤ end
-    pub short : end < length text
     pub lawful : Lawful free l
     pub on : script_from n at free (cut 10 rest) ≡ prefixed (l ∷ []) (script_from (n + 1) (end + 1) (set free l.slot false) (cut 10 (drop (end + 1) text)))
 
-  pub taken : (l : Line) (end : ℕ) → ended_line n at free text ≡ Ok (l, end) → Taken l end
-  taken l end e =
-      let b = bind_back (line_at n at free text) _ (l, end) e in
-      let p = pass_back (ltb b.0.1 (length text)) b.0 (l, end) _ b.2 in
-      let line = found l end (b.1 ∙ ap (λ q. Ok q) p.1) in
-      let test : ltb end (length text) ≡ true = sym (ap (λ (q : Line × ℕ). ltb q.1 (length text)) p.1) ∙ p.0 in
-      let short = ltb-true end (length text) test in
+  pub taken : (l : Line) (end : ℕ) → line_at n at free text ≡ Ok (l, end) → end < length text → Taken l end
+  taken l end e short =
+      let line = found l end e in
       record {
         from = omega (arith, line.ends);
-        short = short;
         lawful = (lined free (whole_line n at piece) l line.right).lawful;
         on = more l end line short;
       }
+
+  pub on_ended : (l : Line) (end : ℕ) → ended_line n at free text ≡ Ok (l, end) → Taken l end
+  on_ended l end e =
+      let b = bind_back (line_at n at free text) _ (l, end) e in
+      let p = pass_back (ltb b.0.1 (length text)) b.0 (l, end) _ b.2 in
+      let test : ltb end (length text) ≡ true = sym (ap (λ (q : Line × ℕ). ltb q.1 (length text)) p.1) ∙ p.0 in
+      taken l end (b.1 ∙ ap (λ q. Ok q) p.1) (ltb-true end (length text) test)
 
   -- a line that was refused
   pub refused : (x : Fault) → ended_line n at free text ≡ Err x → script_from n at free (cut 10 rest) ≡ Err x

@@ -1,17 +1,14 @@
 -- Loading a script into a logger: all its lines are set up at the logger's moment, or none.
 -- Assumes nothing.
-use Rattle.std.specs.Prelude.{ℕ, ◌+◌, Bool, false, not, List, [], ◌∷◌, map, Ok, Err, Result}
+use Rattle.std.specs.Prelude.{ℕ, ◌+◌, Bool, false, List, [], ◌∷◌, map, Ok, Err, Result}
 use Rattle.fault.specs.declared.Fault.{Fault}
-use Rattle.slots.specs.Slots.{taken}
 use Rattle.logger.specs.State.{Log, with_slot}
+use Rattle.jobs.specs.Jobs.{is_free}
 use Rattle.jobs.specs.declared.Slot.{Slot}
 use Rattle.jobs.specs.declared.Slot.TheVariants.{Standing}
 use Rattle.line.specs.declared.line.Line.{Line}
 use Rattle.line.specs.Line.{◌>>=◌}
 use Rattle.script.specs.Script.{script_of}
-
-abbrev pub is_free : Slot → Bool
-is_free slot = not (taken slot)
 
 abbrev pub free_slots : List Slot → List Bool
 free_slots slots = map is_free slots

@@ -2,7 +2,7 @@
 ghost use Rattle.std.specs.Prelude.{◌≡◌, length};
 ghost use Rattle.logger.specs.Calls.{SetUp};
 ghost use Rattle.logger.specs.State.{view};
-ghost use Rattle.script.specs.Load.{is_free, free_slots, lines_for, load_answer, after_load};
+ghost use Rattle.script.specs.Load.{free_slots, lines_for, load_answer, after_load};
 
 use crate::reading::read;
 use clock::alarm::Alarm;
@@ -11,23 +11,10 @@ use jobs::Slot;
 use line::Line;
 use logger::logger::Logger;
 
-fn is_free(slot: Slot) -> bool
-    ensures { result ≡ is_free slot }
-{
-    match slot {
-        Slot::Free => true,
-        Slot::Standing { .. } | Slot::Waiting { .. } => false,
-    }
-}
-
 fn free_slots(slots: &[Slot; 32]) -> [bool; 32]
     ensures { result ≡ free_slots slots.now }
 {
-    let mut free = [false; 32];
-    for i in 0..32 {
-        free[i] = is_free(slots[i]);
-    }
-    free
+    slots.map(|slot| slot.is_free())
 }
 
 // Sets up the job of a line at the logger's moment.
@@ -47,7 +34,7 @@ pub fn load<A: Alarm>(logger: &mut Logger<A>, script: &[u8]) -> Result<(), Fault
     let loaded = read(script, &free)?;
     for line in loaded.lines() {
         // it is not refused: the slot is free, and the job keeps its limits
-        let _ = set_up_line(logger, *line);
+        set_up_line(logger, *line).unwrap();
     }
     Ok(())
 }

@@ -1,26 +1,22 @@
 -- One slot: what a call answers for it, what a firing makes of it, and how far off its due moment is.
 -- Assumes nothing.
-use Rattle.std.specs.Prelude.{ℕ, ◌+◌, ◌-◌, ◌^◌, min, Bool, true, false, cond, Some, None, Ok, Err, Option, Result, nat_lt}
+use Rattle.std.specs.Prelude.{ℕ, ◌+◌, ◌-◌, ◌^◌, min, true, false, cond, Some, None, Ok, Err, Option, Result, nat_lt}
 use Rattle.fault.specs.declared.Fault.{Fault}
 use Rattle.fault.specs.Table.{no_slot, slot_taken, slot_free, slot_errand, reference_ahead, slot_limits, foreign_ticket}
 use Rattle.jobs.specs.declared.Slot.{Slot}
 use Rattle.jobs.specs.declared.Slot.TheVariants.{Free, Standing, Waiting}
 use Rattle.jobs.specs.declared.Job.{Job}
 use Rattle.jobs.specs.declared.Kind.{Kind}
-use Rattle.jobs.specs.declared.Kind.TheVariants.{Once, Every, Burst}
+use Rattle.jobs.specs.declared.Kind.TheVariants.{Once}
 use Rattle.jobs.specs.declared.Action.{Action}
 use Rattle.jobs.specs.declared.Firing.{Firing}
 use Rattle.jobs.specs.declared.Outcome.{Outcome}
+use Rattle.jobs.specs.Jobs.{after_firing, taken}
 use Rattle.slots.specs.Limits.{job_fits}
 
 -- the job of an errand
 abbrev pub once_job : Action → Job
 once_job action = record { kind = Once; action = action }
-
-abbrev pub taken : Slot → Bool
-taken Free = false
-taken (Standing due job errand) = true
-taken (Waiting due) = true
 
 -- a set-up of slot j at moment s answers the first due moment; its refusals, in their order
 abbrev pub set_up_slot : ℕ → ℕ → Slot → ℕ → ℕ → Job → Result ℕ Fault
@@ -45,12 +41,13 @@ settle_slot j Free = Err (foreign_ticket j)
 settle_slot j (Standing due job errand) = cond errand (Ok (record { due = due; fired = false })) (Err (foreign_ticket j))
 settle_slot j (Waiting due) = Ok (record { due = due; fired = true })
 
+abbrev pub stand_on : ℕ → Action → Option (ℕ × Kind) → Slot
+stand_on due action None = Free
+stand_on due action (Some left) = Standing (due + left.0) (record { kind = left.1; action = action }) false
+
 -- a slot after its job fired: the period counts from the due moment, never from the moment of service
 abbrev pub again : ℕ → Action → Kind → Slot
-again due action Once = Free
-again due action (Every period) = Standing (due + period) (record { kind = Every period; action = action }) false
-again due action (Burst count period) =
-    cond (nat_lt 1 count) (Standing (due + period) (record { kind = Burst (count - 1) period; action = action }) false) Free
+again due action kind = stand_on due action (after_firing kind)
 
 abbrev pub fired : Slot → Slot
 fired Free = Free

@@ -1,102 +1,115 @@
 // One slot: what a call answers for it, what a firing makes of it, and how far off its due moment is.
 #![tactic(auto)]
 
-ghost use Rattle.std.specs.Prelude.{◌≡◌, ◌+◌, ◌-◌, ◌^◌, min, true, false, OnOk};
+ghost use Rattle.std.specs.Prelude.{◌≡◌, true, OnOk};
+ghost use Rattle.fault.specs.Table.{in_slot};
 ghost use Rattle.slots.specs.Limits.{kind_fits};
-ghost use Rattle.slots.specs.Slots.{taken, set_up_slot, call_off_slot, settle_slot, again, fired, capped, coming, distance};
+ghost use Rattle.slots.specs.Slots.{set_up_slot, call_off_slot, settle_slot, again, fired, capped, coming, distance};
 
 use crate::limits::fits;
 use crate::moment::Moment;
 use fault::{Cause, Fault};
-use jobs::{Action, Firing, Job, Kind, Outcome, Slot};
+use jobs::{Firing, Job, LAST_SLOT, Outcome, Slot};
 
 mod limits;
 pub mod moment;
 
-// The slots are numbered from 0 up to this.
-const LAST: usize = 31;
-
-fn is_taken(state: Slot) -> bool
-    ensures { result ≡ taken state }
-{
-    match state {
-        Slot::Free => false,
-        Slot::Standing { .. } | Slot::Waiting { .. } => true,
-    }
+// A slot by its number, and the state that it is in.
+#[derive(Clone, Copy, PartialEq, Eq, Debug)]
+pub struct Entry {
+    pub slot: usize,
+    pub state: Slot,
 }
 
-// The due moment of a job that is set up in a slot, or why it is refused.
-pub fn set_up(
-    state: Slot,
-    moment: Moment,
-    slot: usize,
-    reference: u64,
-    delay: u64,
-    job: Job,
-) -> Result<u64, Fault>
-    ensures answer { result ≡ set_up_slot moment.ticks slot state reference delay job }
-    ensures limits { OnOk result (kind_fits job.kind ≡ true) }
-{
-    if slot > LAST {
-        return Err(Fault::in_slot(Cause::NoSlot, slot));
-    }
-    if is_taken(state) {
-        return Err(Fault::in_slot(Cause::Taken, slot));
-    }
-    if reference > moment.ticks {
-        return Err(Fault::in_slot(Cause::ReferenceAhead, slot));
-    }
-    if !fits(job, delay) {
-        return Err(Fault::in_slot(Cause::OutOfLimits, slot));
-    }
-    Ok(reference + delay)
+// What a set-up asks for: a job that is first due a delay after the reference.
+#[derive(Clone, Copy, PartialEq, Eq, Debug)]
+pub struct Terms {
+    pub reference: u64,
+    pub delay: u64,
+    pub job: Job,
 }
 
-// The due moment that is given up, or why it is not. Who holds the ticket of an errand settles it.
-pub fn call_off(state: Slot, slot: usize) -> Result<u64, Fault>
-    ensures { result ≡ call_off_slot slot state }
-{
-    if slot > LAST {
-        return Err(Fault::in_slot(Cause::NoSlot, slot));
+impl Entry {
+    fn fault(self, cause: Cause) -> Fault
+        ensures { result ≡ in_slot cause self.slot }
+    {
+        Fault::in_slot(cause, self.slot)
     }
-    match state {
-        Slot::Free => Err(Fault::in_slot(Cause::SlotFree, slot)),
-        Slot::Standing { due, errand, .. } => {
-            if errand {
-                Err(Fault::in_slot(Cause::SlotErrand, slot))
-            } else {
-                Ok(due)
-            }
+
+    // The due moment of a job that is set up in the slot, or why it is refused.
+    pub fn set_up(self, moment: Moment, terms: Terms) -> Result<u64, Fault>
+        ensures answer { result ≡ set_up_slot moment.ticks self.slot self.state terms.reference terms.delay terms.job }
+        ensures limits { OnOk result (kind_fits terms.job.kind ≡ true) }
+    {
+        if self.slot > LAST_SLOT {
+            return Err(self.fault(Cause::NoSlot));
         }
-        Slot::Waiting { .. } => Err(Fault::in_slot(Cause::SlotErrand, slot)),
-    }
-}
-
-// What a ticket for this slot is settled for; a slot that holds no errand knows no ticket.
-pub fn settle(state: Slot, slot: usize) -> Result<Outcome, Fault>
-    ensures { result ≡ settle_slot slot state }
-{
-    match state {
-        Slot::Free => Err(Fault::in_slot(Cause::ForeignTicket, slot)),
-        Slot::Standing { due, errand, .. } => {
-            if errand {
-                Ok(Outcome { due, fired: false })
-            } else {
-                Err(Fault::in_slot(Cause::ForeignTicket, slot))
-            }
+        if !self.state.is_free() {
+            return Err(self.fault(Cause::Taken));
         }
-        Slot::Waiting { due } => Ok(Outcome { due, fired: true }),
+        if terms.reference > moment.ticks {
+            return Err(self.fault(Cause::ReferenceAhead));
+        }
+        if !fits(terms.job, terms.delay) {
+            return Err(self.fault(Cause::OutOfLimits));
+        }
+        Ok(terms.reference + terms.delay)
     }
-}
 
-// A job that goes on after a firing, one period later.
-fn standing(due: u64, period: u64, kind: Kind, action: Action) -> Slot
-    ensures { result ≡ Slot.Standing (min (due + period) (2 ^ 64 - 1)) (record { kind = kind; action = action }) false }
-{
-    Slot::Standing {
-        due: due.saturating_add(period),
-        job: Job { kind, action },
-        errand: false,
+    // The due moment that is given up, or why it is not. Who holds the ticket of an errand settles it.
+    pub fn call_off(self) -> Result<u64, Fault>
+        ensures { result ≡ call_off_slot self.slot self.state }
+    {
+        if self.slot > LAST_SLOT {
+            return Err(self.fault(Cause::NoSlot));
+        }
+        match self.state {
+            Slot::Free => Err(self.fault(Cause::SlotFree)),
+            Slot::Standing {
+                due,
+                errand: false,
+                ..
+            } => Ok(due),
+            Slot::Standing { .. } | Slot::Waiting { .. } => Err(self.fault(Cause::SlotErrand)),
+        }
+    }
+
+    // What a ticket for this slot is settled for; a slot that holds no errand knows no ticket.
+    pub fn settle(self) -> Result<Outcome, Fault>
+        ensures { result ≡ settle_slot self.slot self.state }
+    {
+        match self.state {
+            Slot::Standing {
+                due,
+                errand: true,
+                ..
+            } => Ok(Outcome { due, fired: false }),
+            Slot::Waiting { due } => Ok(Outcome { due, fired: true }),
+            Slot::Free | Slot::Standing { .. } => Err(self.fault(Cause::ForeignTicket)),
+        }
+    }
+
+    // Fires the slot: what `next` answers at this moment, and the state that it leaves.
+    pub fn fire(self, moment: Moment) -> (Option<Firing>, Slot)
+        ensures { result ≡ (coming moment.ticks self.slot self.state, capped (fired self.state)) }
+    {
+        match self.state {
+            Slot::Standing { due, job, errand } => {
+                let firing = Firing {
+                    slot: self.slot,
+                    due,
+                    at: moment.ticks,
+                    action: job.action,
+                };
+                let after = if errand {
+                    Slot::Waiting { due }
+                } else {
+                    stand_again(job, due)
+                };
+                (Some(firing), after)
+            }
+            Slot::Free | Slot::Waiting { .. } => (None, self.state),
+        }
     }
 }
 
@@ -104,44 +117,13 @@ fn standing(due: u64, period: u64, kind: Kind, action: Action) -> Slot
 fn stand_again(job: Job, due: u64) -> Slot
     ensures { result ≡ capped (again due job.action job.kind) }
 {
-    match job.kind {
-        Kind::Once => Slot::Free,
-        Kind::Every { period } => standing(due, period, job.kind, job.action),
-        Kind::Burst { count, period } => {
-            if count > 1 {
-                let rest = Kind::Burst {
-                    count: count - 1,
-                    period,
-                };
-                standing(due, period, rest, job.action)
-            } else {
-                Slot::Free
-            }
-        }
-    }
-}
-
-// Fires a slot: what `next` answers at this moment, and the state that it leaves.
-pub fn fire(state: Slot, moment: Moment, slot: usize) -> (Option<Firing>, Slot)
-    ensures { result ≡ (coming moment.ticks slot state, capped (fired state)) }
-{
-    match state {
-        Slot::Free => (None, Slot::Free),
-        Slot::Standing { due, job, errand } => {
-            let firing = Firing {
-                slot,
-                due,
-                at: moment.ticks,
-                action: job.action,
-            };
-            let after = if errand {
-                Slot::Waiting { due }
-            } else {
-                stand_again(job, due)
-            };
-            (Some(firing), after)
-        }
-        Slot::Waiting { due } => (None, Slot::Waiting { due }),
+    match job.kind.after_firing() {
+        Some((period, kind)) => Slot::Standing {
+            due: due.saturating_add(period),
+            job: Job { kind, ..job },
+            errand: false,
+        },
+        None => Slot::Free,
     }
 }
 

@@ -2,15 +2,12 @@
 ghost use Rattle.std.specs.Prelude.{◌≡◌};
 ghost use Rattle.slots.specs.Limits.{period_fits, kind_fits, action_fits, job_fits};
 
-use jobs::{Action, Job, Kind};
-
-// Periods and delays stay below 2^40 ticks.
-const TICKS: u64 = 1_099_511_627_776;
+use jobs::{Action, Job, Kind, MOST_CHANNEL, MOST_FIRINGS, MOST_TICKS};
 
 fn period_fits(period: u64) -> bool
     ensures { result ≡ period_fits period }
 {
-    period >= 1 && period < TICKS
+    (1..=MOST_TICKS).contains(&period)
 }
 
 fn kind_fits(kind: Kind) -> bool
@@ -19,7 +16,9 @@ fn kind_fits(kind: Kind) -> bool
     match kind {
         Kind::Once => true,
         Kind::Every { period } => period_fits(period),
-        Kind::Burst { count, period } => { count >= 1 && count <= 65535 && period_fits(period) }
+        Kind::Burst { count, period } => {
+            (1..=MOST_FIRINGS).contains(&count) && period_fits(period)
+        }
     }
 }
 
@@ -27,7 +26,7 @@ fn action_fits(action: Action) -> bool
     ensures { result ≡ action_fits action }
 {
     match action {
-        Action::Read { channel } => channel <= 15,
+        Action::Read { channel } => channel <= MOST_CHANNEL,
         Action::Mark => true,
     }
 }
@@ -35,5 +34,5 @@ fn action_fits(action: Action) -> bool
 pub(crate) fn fits(job: Job, delay: u64) -> bool
     ensures { result ≡ job_fits delay job }
 {
-    delay < TICKS && (kind_fits(job.kind) && action_fits(job.action))
+    delay <= MOST_TICKS && kind_fits(job.kind) && action_fits(job.action)
 }

@@ -1,5 +1,4 @@
 -- Lines of text: the pieces of a text, its words, and the numbers among these.
+pub mod Cuts
 pub mod Words
 pub mod Number
-pub mod Letters
-pub mod Cuts

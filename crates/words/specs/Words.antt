@@ -1,25 +1,13 @@
 -- The words of a line: what stands between single spaces. Two spaces in a row have an empty word between them.
 -- Assumes nothing.
-use Rattle.std.specs.Prelude.{ℕ, Bool, cond, List, [], ◌∷◌, Some, None, Option, ◌==◌}
-
--- a byte put before the first word
-abbrev pub onto : ℕ → List (List ℕ) → List (List ℕ)
-onto b [] = (b ∷ []) ∷ []
-onto b (w ∷ ws) = (b ∷ w) ∷ ws
+use Rattle.std.specs.Prelude.{ℕ, List, []}
+use Rattle.std.specs.Option.{option_map, unwrap_or}
+use Rattle.words.specs.declared.Words.{Words}
+use Rattle.words.specs.Cuts.{cut}
 
 abbrev pub words_of : List ℕ → List (List ℕ)
-words_of [] = [] ∷ []
-words_of (b ∷ bs) = cond (b == 32) ([] ∷ words_of bs) (onto b (words_of bs))
+words_of line = cut 32 line
 
 -- the words still to be read
-abbrev pub remaining : List ℕ → Bool → List (List ℕ)
-remaining rest more = cond more (words_of rest) []
-
--- the first of a list, and the others
-abbrev pub first_of : List (List ℕ) → Option (List ℕ)
-first_of [] = None
-first_of (w ∷ ws) = Some w
-
-abbrev pub others_of : List (List ℕ) → List (List ℕ)
-others_of [] = []
-others_of (w ∷ ws) = ws
+abbrev pub words_left : Words → List (List ℕ)
+words_left w = unwrap_or (option_map (λ line. words_of line.now) w.rest) []

@@ -7,10 +7,6 @@ use Rattle.clock.specs.Meaning.{Meaning}
 use Rattle.clock.specs.Calls.{Taken}
 use Rattle.worked.specs.Cases.{up, at_rate}
 
-abbrev pub ok_value : {A E : Type 0} → A → Result A E → A
-ok_value other (Ok x) = x
-ok_value other (Err e) = other
-
 abbrev pub stacked : Meaning Word
 stacked = at_rate 2 3 (at_rate 1 2 (up 8 0))
 

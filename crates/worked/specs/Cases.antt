@@ -1,6 +1,7 @@
 -- The worked numbers as one table. What a case says is an equation on the definitions that contracts cite.
 -- Assumes nothing.
-use Rattle.std.specs.Prelude.{◌≡◌, ℕ, zero, suc, ◌<◌, false, List, [], ◌∷◌, ◌++◌, length, ℤ, pos, negsuc, Some, None, Ok, Err, codes, Option, Result}
+use Rattle.std.specs.Prelude.{◌≡◌, ℕ, zero, suc, ◌<◌, false, List, [], ◌∷◌, ◌++◌, length, fold, ℤ, pos, negsuc, Some, None, Ok, Err, codes, Option, Result}
+use Rattle.std.specs.List.{flat_map}
 use Rattle.fault.specs.declared.Fault.{Fault}
 use Rattle.fault.specs.Table.{half_turn}
 use Rattle.clock.specs.declared.appointment.Appointment.{Appointment}
@@ -43,10 +44,8 @@ pub record Entry : Type 0 where
   pub delay : ℕ
   pub job : Job
 
-abbrev pub entered : {X : Type 0} → List Entry → Log X → Log X
-entered [] l = l
-entered (e ∷ es) l =
-    entered es (after_set_up l e.slot e.job false (set_up_slot l.moment e.slot (slot_of l e.slot) l.moment e.delay e.job))
+abbrev pub enter : {X : Type 0} → Log X → Entry → Log X
+enter l e = after_set_up l e.slot e.job false (set_up_slot l.moment e.slot (slot_of l e.slot) l.moment e.delay e.job)
 
 -- what next answers, so many times in a row
 abbrev pub nexts : {X : Type 0} → ℕ → Log X → List (Option Firing)
@@ -95,13 +94,12 @@ True (measures q p d n) = (at_rate q p (up 8 0)).measure d ≡ n
 True (measures_twice q p q' p' d n) = (at_rate q' p' (at_rate q p (up 8 0))).measure d ≡ n
 True (holds w q p left n) = hold_of (at_rate q p (up w 0)) (Standing left) ≡ n
 True (leads w a b r) = lead_of w a b ≡ r
-True (fires start es d answers) = nexts (length answers) (served (entered es (fresh 0 start (up 8 0))) d) ≡ answers
+True (fires start es d answers) = nexts (length answers) (served (fold enter (fresh 0 start (up 8 0)) es) d) ≡ answers
 True (lists script text) = listing_text script ≡ text
 
 -- lines of text, byte 10 after each
 abbrev pub text_lines : List (List ℕ) → List ℕ
-text_lines [] = []
-text_lines (l ∷ ls) = l ++ (10 ∷ text_lines ls)
+text_lines = flat_map (λ l. l ++ (10 ∷ []))
 
 abbrev pub cases : List Case
 cases =
@@ -126,7 +124,3 @@ cases =
     lists (text_lines (codes "2 burst 3 10 0 read 1" ∷ codes "1 once 10 mark" ∷ []))
     (text_lines (codes "0 2" ∷ codes "10 1" ∷ codes "10 2" ∷ codes "20 2" ∷ [])) ∷
     []
-
-abbrev pub All_true : List Case → Type 0
-All_true [] = Unit {0}
-All_true (c ∷ cs) = True c × All_true cs

@@ -1,8 +1,8 @@
 // The worked numbers of the library: shown against the definitions, and run through the code.
 #![tactic(auto)]
 
-ghost use Rattle.std.specs.Prelude.{◌≡◌, length, Ok};
-ghost use Rattle.worked.specs.Cases.{cases, All_true};
+ghost use Rattle.std.specs.Prelude.{◌≡◌, length, All, Ok};
+ghost use Rattle.worked.specs.Cases.{cases, True};
 
 use clock::alarm::Alarm;
 use fault::Fault;
@@ -15,7 +15,7 @@ mod tests;
 // How many worked numbers there are; each of them holds of the definitions.
 pub fn worked_numbers() -> usize
     ensures count { result ≡ length cases }
-    ensures all { All_true cases }
+    ensures all { All True cases }
 {
     18
 }

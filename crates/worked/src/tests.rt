@@ -92,6 +92,7 @@ fn marks(kind: Kind) -> Job {
     }
 }
 
+// Beside the one of the logger's tests, since a test module lends nothing.
 fn marked(slot: usize, due: u64) -> Option<Firing> {
     Some(Firing {
         slot,

@@ -1,5 +1,5 @@
 // What a script that was read tells.
-ghost use Rattle.std.specs.Prelude.{◌≡◌, ◌+◌, ◌<◌, [], ◌∷◌, ◌++◌};
+ghost use Rattle.std.specs.Prelude.{◌≡◌, ◌<◌, [], ◌∷◌, ◌++◌, length};
 ghost use Rattle.script.specs.Lines.{lines_of};
 
 use super::Script;
@@ -9,9 +9,9 @@ use line::Line;
 impl Script {
     // A script with no line.
     pub(crate) fn new() -> Script
-        ensures lines { lines_of result ≡ [] }
-        ensures count { result.count ≡ 0 }
+        ensures { lines_of result ≡ [] }
     {
+        // by hand, since no job is a job by default
         let blank = Line {
             slot: 0,
             delay: 0,
@@ -29,13 +29,12 @@ impl Script {
     pub fn lines(&self) -> &[Line]
         ensures { result.now ≡ lines_of self.now }
     {
-        &self.lines[0..self.count]
+        &self.lines[..self.count]
     }
 
     pub(crate) fn add(&mut self, line: Line)
-        requires { self.old.count < 32 }
-        ensures lines { lines_of self.new ≡ lines_of self.old ++ line ∷ [] }
-        ensures count { self.new.count ≡ self.old.count + 1 }
+        requires { length (lines_of self.old) < 32 }
+        ensures { lines_of self.new ≡ lines_of self.old ++ line ∷ [] }
     {
         self.lines[self.count] = line;
         self.count += 1;

@@ -12,11 +12,7 @@ few : {X : Type 0} (m : Meaning X) (a : Appointment) (sample : X) (r : Result â„
 few m a sample (Ok gained) m' a' law t = omega (arith, t.gain, t.within, measure_le law.counts t.ticks, law.reach_high)
 few m a sample (Err fault) m' a' law t = tt
 
-pub returns : goal.returns
-returns g c =
-    let at = g.A.Clock.meaning in
-    let is = g.A.Alarm.appointment in
-    record {
-      taken = c.take.ensures;
-      few = few (at c.args.alarm.now) (is c.args.alarm.now) c.args.sample c.take.result (at c.take.new.self) (is c.take.new.self) (g.met.A.Clock.lawful c.args.alarm.now) c.take.ensures;
-    }
+pub returns-clause-few : goal.returns-clause-few
+returns-clause-few g c =
+    let s = c.args.alarm.now in
+    few (g.A.Clock.meaning s) (g.A.Alarm.appointment s) _ _ _ _ (g.met.A.Clock.lawful s) c.take.ensures

@@ -1,27 +1,15 @@
-use Rattle.std.proofs.Common.{◌≡◌, ◌<◌, [], ◌∷◌, ◌++◌, map, length, take, sym, ap, ◌∙◌, arith, length-set, rules}
-use Rattle.std.proofs.lemmas.List.{take_more_set, map_more, take_all}
+use Rattle.std.proofs.Common.{◌≡◌, map, length, get_or, sym, ◌∙◌, arith, rules}
+use Rattle.std.proofs.lemmas.List.{same_lists, length-map, get_or-map}
+use Rattle.jobs.specs.Jobs.{is_free}
 use Rattle.jobs.specs.declared.Slot.TheVariants.{Free}
-use Rattle.script.specs.Load.{is_free, free_slots}
 use Rattle.script.proofs.loading.free_slots.Goals as goal
-
-pub loop-i-preserved : goal.loop-i-preserved
-loop-i-preserved c =
-    let slots = c.args.slots.now in
-    let i = c.loop-i.i in
-    let size : length slots ≡ 32 = search rules in
-    let inside : i < length slots = omega (arith, c.loop-i-test.true) in (
-      take_more_set c.loop-i.free i c.is_free.result (omega (arith, c.loop-i.invariant.1, c.loop-i-test.true))
-          ∙ ap (λ xs. xs ++ (c.is_free.result ∷ [])) c.loop-i.invariant.0
-          ∙ ap (λ x. map is_free (take i slots) ++ (x ∷ [])) c.is_free.ensures
-          ∙ sym (map_more is_free slots i Free inside),
-      length-set c.loop-i.free i c.is_free.result ∙ c.loop-i.invariant.1,
-    )
 
 pub returns : goal.returns
 returns c =
     let slots = c.args.slots.now in
-    let i = c.loop-i.i in
+    let mapped = c.map.ensures.items in
     let size : length slots ≡ 32 = search rules in
-    sym (take_all i c.loop-i.free (omega (arith, c.loop-i.invariant.1, c.loop-i-test.false)))
-    ∙ c.loop-i.invariant.0
-    ∙ ap free_slots (take_all i slots (omega (arith, c.loop-i-test.false)))
+    same_lists c.map.result (map is_free slots) (mapped.long ∙ sym (length-map slots is_free ∙ size)) (λ k d in_free.
+    let call = (mapped.at k Free d (omega (arith, mapped.long, in_free))).2 in
+    let here : get_or c.map.result k d ≡ is_free (get_or slots k Free) = search rules in
+    here ∙ sym (get_or-map is_free slots k Free d (omega (arith, mapped.long, in_free, size))))

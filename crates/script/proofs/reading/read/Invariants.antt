@@ -8,12 +8,12 @@ use Rattle.script.proofs.reading.read.Given as goal
 
 -- what was read stands before what the rest is read as; a line was read for each slot that was taken
 abbrev pub invariant-loop-byte : goal.invariant-loop-byte
-invariant-loop-byte l =
-    (script_of l.free l.text ≡ prefixed (lines_of l.script) (script_from l.number l.byte l.open (cut 10 (drop l.byte l.text))))
-    × (l.byte ≤ length l.text)
-    × (l.number ≤ l.byte + 1)
-    × (l.script.count + frees l.open ≤ 32)
-    × (length l.open ≡ 32)
+invariant-loop-byte l = record {
+  answer : script_of l.free l.text ≡ prefixed (lines_of l.script) (script_from (length (lines_of l.script) + 1) l.byte l.open (cut 10 (drop l.byte l.text)));
+  within : l.byte ≤ length l.text;
+  room : length (lines_of l.script) + frees l.open ≤ 32;
+  slots : length l.open ≡ 32;
+}
 
 abbrev pub decreases-loop-byte : goal.decreases-loop-byte
 decreases-loop-byte l = length l.text - l.byte
