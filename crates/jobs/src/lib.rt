@@ -11,7 +11,7 @@ use std::fmt;
 pub const LAST_SLOT: usize = 31;
 
 // The largest period and delay.
-pub const MOST_TICKS: u64 = 1_099_511_627_775;
+pub const MOST_TICKS: u64 = (1 << 40) - 1;
 
 pub const MOST_FIRINGS: u32 = 65_535;
 

@@ -1,9 +1,9 @@
 -- Steps of judging, forwards and backwards. Assumes nothing.
-use Rattle.std.proofs.Common.{◌≡◌, ℕ, Bool, true, false, cond, Ok, Err, Result, refl, ap, arith}
+use Rattle.std.proofs.Common.{◌≡◌, Bool, true, false, cond, Ok, Err, Result, refl, ap}
 use Rattle.line.specs.Line.{◌>>=◌}
 
 pub err_not_ok : {A E : Type 0} {e : E} {a : A} → Err e ≡ Ok a → ⊥
-err_not_ok {e = e} {a = a} p = let z : ◌≡◌ {A = ℕ} 0 1 = cc in omega arith
+err_not_ok p = cc
 
 pub same_ok : {A E : Type 0} {a b : A} → ◌≡◌ {A = Result A E} (Ok a) (Ok b) → a ≡ b
 same_ok p = cc

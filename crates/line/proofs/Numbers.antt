@@ -28,14 +28,14 @@ number_decimal n h =
 
 some_back : (t : Bool) (m n : ℕ) → cond t (Some m) None ≡ Some n → (t ≡ true) × (m ≡ n)
 some_back true m n e = (refl, cc)
-some_back false m n e = absurd (let z : ◌≡◌ {A = ℕ} 0 1 = cc in omega arith)
+some_back false m n e = absurd cc
 
 plain_some : (ds : List ℕ) → plain ds ≡ true → 0 < length ds
-plain_some [] h = absurd (let z : ◌≡◌ {A = ℕ} 0 1 = cc in omega arith)
+plain_some [] h = absurd cc
 plain_some (b ∷ bs) h = omega arith
 
 plain_first : (ds : List ℕ) → plain ds ≡ true → get_or ds 0 0 ≡ 48 → length ds ≡ 1
-plain_first [] h e = absurd (let z : ◌≡◌ {A = ℕ} 0 1 = cc in omega arith)
+plain_first [] h e = absurd cc
 plain_first (b ∷ []) h e = refl
 plain_first (b ∷ (c ∷ bs)) h e = absurd (eqb-false b 48 (not-true (eqb b 48) h) e)
 

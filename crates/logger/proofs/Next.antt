@@ -42,11 +42,9 @@ law_of_answer l r e = subst (NextLaw l) (sym e) (next_law l)
 -- and the law leaves one answer only: what is first is what next answers, and none where nothing is due
 module _ {X : Type 0} (l : Log X) where
   one_first : (f g : Firing) → First l f → First l g → f ≡ g
-  one_first f g a b = some_is (sym a.stands ∙ ap (λ n. coming l.moment n (slot_of l n)) (same_slot (cases_order f.slot g.slot)) ∙ b.stands)
+  one_first f g a b =
+      cc (sym a.stands ∙ ap (λ n. coming l.moment n (slot_of l n)) (same_slot (cases_order f.slot g.slot)) ∙ b.stands)
     where
-      some_is : Some f ≡ Some g → f ≡ g
-      some_is e = cc
-
       same_slot : (f.slot ≡ g.slot) ⊎ ((f.slot < g.slot) ⊎ (g.slot < f.slot)) → f.slot ≡ g.slot
       same_slot (inl e) = e
       same_slot (inr (inl h)) = absurd (omega (arith, b.lowest f.slot f h a.stands, a.least g.slot g b.stands))

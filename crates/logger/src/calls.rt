@@ -19,7 +19,7 @@ use slots::{Entry, Terms};
 use table::Table;
 
 // The last moment at which a sample is still taken, 2^62 - 2^32: a sample brings fewer than 2^32 ticks.
-const LAST_SERVED: u64 = 4_611_686_014_132_420_608;
+const LAST_SERVED: u64 = (1 << 62) - (1 << 32);
 
 // The ticks that a sample brings, fewer than 2^32 since they are no more than the true ticks.
 fn taken<A: Alarm>(alarm: &mut A, sample: A::Sample) -> Result<u64, Fault>

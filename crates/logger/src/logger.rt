@@ -6,6 +6,7 @@ use slots::moment::Moment;
 use table::Table;
 
 // The moment moves with each accepted sample; the table holds the jobs; the alarm below is the logger's tool.
+// No model: its value could hold the alarm, not what that means, so each clause would apply the meaning all the same.
 #[derive(Drop)]
 pub struct Logger<A> {
     pub(crate) number: u16,

@@ -1,5 +1,5 @@
 -- The promise about two loggers, from its parts. Assumes nothing.
-use Rattle.std.proofs.Common.{◌≡◌, ℕ, Bool, true, false, ◌&&◌, T, eqb, List, [], ◌∷◌, length, replicate, sym, refl, ap, ◌∙◌}
+use Rattle.std.proofs.Common.{◌≡◌, ℕ, Bool, true, false, ◌&&◌, T, eqb, List, [], ◌∷◌, length, replicate, refl, ap, ◌∙◌}
 use Rattle.std.proofs.lemmas.Bool.{and_parts, eqb-true}
 use Rattle.clock.specs.Meaning.{Counts}
 use Rattle.std.specs.List.{list_all}
@@ -9,7 +9,6 @@ use Rattle.jobs.specs.declared.Slot.TheVariants.{Free, Standing, Waiting}
 use Rattle.logger.specs.State.{Log}
 use Rattle.promise.specs.Runs.{Event, Run, Emptied}
 use Rattle.promise.specs.Promise.{all_free, starts_alike, Kept, Alike}
-use Rattle.promise.proofs.Basics.{true_false}
 use Rattle.promise.proofs.Courses.{course, free_start}
 use Rattle.promise.proofs.Completeness.{complete, unrepeated}
 use Rattle.promise.proofs.Soundness.{sound}
@@ -25,8 +24,8 @@ each_free (slot ∷ slots) = ap (λ b. is_free slot && b) (each_free slots)
 pub free_table : (slots : List Slot) → all_free slots ≡ true → slots ≡ replicate (length slots) Free
 free_table [] e = refl
 free_table (Free ∷ slots) e = ap (λ (xs : List Slot). Free ∷ xs) (free_table slots e)
-free_table (Standing due job b ∷ slots) e = true_false (sym e)
-free_table (Waiting due ∷ slots) e = true_false (sym e)
+free_table (Standing due job b ∷ slots) e = cc
+free_table (Waiting due ∷ slots) e = cc
 
 pub kept : {X : Type 0} (j : ℕ) (l l' : Log X) (es : List (Event X)) → Counts l.stack.measure → l.slots ≡ replicate 32 Free
     → Run l es l' → Emptied true es → Kept l.moment j es l.stack

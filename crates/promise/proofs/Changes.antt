@@ -21,7 +21,6 @@ use Rattle.logger.specs.Calls.{after_set_up, ticketed, NextLaw, First, Quiet}
 use Rattle.logger.proofs.Next.{next_law}
 use Rattle.promise.specs.Runs.{Event, serve, set_up, errand, call_off, settle, next, hold, Step, is_next, emptied_by}
 use Rattle.promise.specs.Words.{sets, ends}
-use Rattle.promise.proofs.Basics.{true_false, ok_err, ok_same}
 use Rattle.promise.proofs.Firings.{kind_by, Steady}
 
 -- nothing of the slot is due at moment s
@@ -58,8 +57,8 @@ pub record Fitting (s j : ℕ) (slot : Slot) (reference delay : ℕ) (job : Job)
 
 not_taken : (slot : Slot) → taken slot ≡ false → slot ≡ Free
 not_taken Free e = refl
-not_taken (Standing due job b) e = true_false e
-not_taken (Waiting due) e = true_false e
+not_taken (Standing due job b) e = cc
+not_taken (Waiting due) e = cc
 
 steady : (kind : Kind) → kind_fits kind ≡ true → Steady kind
 steady Once e = tt
@@ -74,19 +73,19 @@ set_up_fits s j slot reference delay job due = one (ltb 31 j) refl (taken slot) 
     one : (a : Bool) → ltb 31 j ≡ a → (b : Bool) → taken slot ≡ b → (c d : Bool) → job_fits delay job ≡ d
         → Ok due ≡ cond a (Err (no_slot j)) (cond b (Err (slot_taken j)) (cond c (Err (reference_ahead j)) (cond d (Ok (reference + delay)) (Err (slot_limits j)))))
         → Fitting s j slot reference delay job due
-    one true p b q c d r e = ok_err e
-    one false p true q c d r e = ok_err e
-    one false p false q true d r e = ok_err e
-    one false p false q false false r e = ok_err e
+    one true p b q c d r e = cc
+    one false p true q c d r e = cc
+    one false p false q true d r e = cc
+    one false p false q false false r e = cc
     one false p false q false true r e = record {
       low = omega (arith, ltb-false 31 j p);
       free = not_taken slot q;
       fits = steady job.kind (and_parts _ _ (and_parts _ _ r).1).0;
-      first = ok_same e;
+      first = cc;
     }
 
 pub no_next : {X : Type 0} {e : Event X} {r : Option Firing} {C : Type 0} → is_next e ≡ false → e ≡ next r → C
-no_next {X} p q = true_false (sym (ap (λ (x : Event X). is_next x) q) ∙ p)
+no_next {X} p q = cc (sym (ap (λ (x : Event X). is_next x) q) ∙ p)
 
 module _ {X : Type 0} (j : ℕ) (l m : Log X) (sized : length l.slots ≡ 32) where
   abbrev Changed : Event X → Type 0
@@ -154,8 +153,8 @@ module _ {X : Type 0} (j : ℕ) (l m : Log X) (sized : length l.slots ≡ 32) wh
       by : (r : Result Ticket Fault) (o : Result ℕ Fault) → o ≡ set_up_slot l.moment k (slot_of l k) reference delay (once_job action)
           → r ≡ ticketed l k o → m ≡ after_set_up l k (once_job action) true o → Changed (errand k reference delay action r)
       by (Ok ticket) (Ok due) o answer after = at ticket due o after (eqb k j) refl
-      by (Ok ticket) (Err f) o answer after = ok_err answer
-      by (Err f) (Ok due) o answer after = ok_err (sym answer)
+      by (Ok ticket) (Err f) o answer after = cc
+      by (Err f) (Ok due) o answer after = cc
       by (Err f) (Err g) o answer after = as_it_was (errand k reference delay action (Err f)) refl refl refl after
 
   changed_call_off : (k : ℕ) (r : Result ℕ Fault) → Step l (call_off k r) m → Changed (call_off k r)
@@ -180,7 +179,7 @@ module _ {X : Type 0} (j : ℕ) (l m : Log X) (sized : length l.slots ≡ 32) wh
   changed_next None a =
       let quiet : Quiet l = subst (λ (o : Option Firing). NextLaw l o) (sym a.answer) (next_law l) in
       same refl refl (ap (λ (x : Log X). x.moment) a.after) (ap (λ (x : Log X). slot_of x j) a.after)
-      (λ f i. let z : ◌≡◌ {A = ℕ} 0 1 = cc in absurd (omega arith)) (λ i. quiet j)
+      (λ f i. cc) (λ i. quiet j)
   changed_next (Some f) a = by (eqb f.slot j) refl
     where
       first : First l f
@@ -195,7 +194,7 @@ module _ {X : Type 0} (j : ℕ) (l m : Log X) (sized : length l.slots ≡ 32) wh
       by false t =
           same refl refl (ap (λ (x : Log X). x.moment) a.after)
           (ap (λ (x : Log X). slot_of x j) a.after ∙ slot_set_other l j f.slot (fired (slot_of l f.slot)) (eqb-false f.slot j t))
-          (λ g i k. eqb-false f.slot j t (next_slot i ∙ k)) (λ i. let z : ◌≡◌ {A = ℕ} 0 1 = cc in absurd (omega arith))
+          (λ g i k. eqb-false f.slot j t (next_slot i ∙ k)) (λ i. cc)
         where
           next_slot : {f g : Firing} → ◌≡◌ {A = Event X} (next (Some f)) (next (Some g)) → f.slot ≡ g.slot
           next_slot {f} {g} i = let s : f ≡ g = cc in ap (λ (x : Firing). x.slot) s

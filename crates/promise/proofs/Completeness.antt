@@ -1,5 +1,6 @@
 -- Every due moment reached is reported in the first emptying after, and once only. Assumes nothing.
 use Rattle.std.proofs.Common.{◌≡◌, ℕ, zero, suc, ◌+◌, ◌<◌, ◌≤◌, Bool, true, false, ◌||◌, T, ◌⊎◌, List, length, Some, None, Ok, Option, sym, refl, ap, ◌∙◌, subst, inl, inr, arith}
+use Rattle.std.proofs.lemmas.Option.{slice_get_within}
 use Rattle.std.proofs.lemmas.Bool.{cases_lt, cases_eq, cases_order}
 use Rattle.jobs.specs.declared.Job.{Job}
 use Rattle.jobs.specs.declared.Action.{Action}
@@ -10,29 +11,28 @@ use Rattle.table.proofs.Soonest.{coming_at, coming_slot}
 use Rattle.promise.specs.Runs.{Event, serve, set_up, errand, call_off, settle, next, hold, is_next, emptied_by}
 use Rattle.promise.specs.Words.{sets, DueMoment, At, FirstEmptying, NoSetUp, SetUpAt, ReachedBy, ReportedAt}
 use Rattle.promise.specs.Promise.{Complete, Unrepeated}
-use Rattle.promise.proofs.Basics.{none_some, some_none, some_same, true_false, there, within}
 use Rattle.promise.proofs.Firings.{Promises, SteadySlot, comes, fired_keeps, fired_later}
 use Rattle.promise.proofs.Changes.{same, moves, starts, ended, fires, no_next}
-use Rattle.promise.proofs.Courses.{Course}
+use Rattle.promise.proofs.Courses.{there, Course}
 use Rattle.promise.proofs.Standing.{s_at, slot_at, ChangeAt, steady, stood, stands, kept_slot, moment_before, not_reached}
 
 next_form : {X : Type 0} (e : Event X) → is_next e ≡ true → (r : Option Firing) × (e ≡ next r)
-next_form (serve d x r) h = true_false (sym h)
-next_form (set_up k reference delay job r) h = true_false (sym h)
-next_form (errand k reference delay action r) h = true_false (sym h)
-next_form (call_off k r) h = true_false (sym h)
-next_form (settle ticket r) h = true_false (sym h)
+next_form (serve d x r) h = cc
+next_form (set_up k reference delay job r) h = cc
+next_form (errand k reference delay action r) h = cc
+next_form (call_off k r) h = cc
+next_form (settle ticket r) h = cc
 next_form (next r) h = (r, refl)
-next_form (hold n) h = true_false (sym h)
+next_form (hold n) h = cc
 
 -- a call of a logger that is not emptied is a next
 only_next : (b a : Bool) → T (b || a) → b ≡ false → a ≡ true
-only_next true a t e = true_false e
+only_next true a t e = cc
 only_next false true t e = refl
 only_next false false t e = absurd t
 
 not_both : (b : Bool) → T b → b ≡ false → ⊥
-not_both true t e = true_false e
+not_both true t e = cc
 not_both false t e = t
 
 pub firing_is : (f : Firing) (j u s : ℕ) (action : Action) → f.slot ≡ j → f.due ≡ u → f.at ≡ s → f.action ≡ action
@@ -55,7 +55,7 @@ module _ {X : Type 0} {j : ℕ} {l : Log X} {es : List (Event X)} (c : Course j 
       by : ChangeAt c q (next (Some f)) → Fired q f
       by (same p r s slot other quiet) = absurd (other f refl own)
       by (moves d x i grows slot) = no_next {e = serve d x (Ok (s_at c (suc q)))} refl (sym i)
-      by (starts job first given p r s free slot kind st empty) = none_some p
+      by (starts job first given p r s free slot kind st empty) = cc
       by (ended p r s slot other) = absurd (other f refl)
       by (fires g i co due s slot) =
           let fg : g ≡ f = sym (next_same i) in
@@ -77,7 +77,7 @@ module _ {X : Type 0} {j : ℕ} {l : Log X} {es : List (Event X)} (c : Course j 
         → Coming n u s action
     here n f at co promised is-u is-s =
         let g = comes (s_at c n) j (slot_at c n) action u promised in
-        let fg : g.0 ≡ f = some_same (sym g.1 ∙ co) in
+        let fg : g.0 ≡ f = cc (sym g.1 ∙ co) in
         let act : f.action ≡ action = subst (λ (y : Firing). y.action ≡ action) fg g.3 in
         record {
           place = n;
@@ -115,7 +115,7 @@ module _ {X : Type 0} {j : ℕ} {l : Log X} {es : List (Event X)} (c : Course j 
         answered f at on (same p q t slot own quiet) =
             later n f at (on (c.turns n (next (Some f)) at ∙ b) (rw slot promised) due (t ∙ is-s))
         answered f at on (moves d x i grows slot) = no_next {e = serve d x (Ok (s_at c (suc n)))} refl (sym i)
-        answered f at on (starts job first given p q t free slot kind st empty) = none_some p
+        answered f at on (starts job first given p q t free slot kind st empty) = cc
         answered f at on (ended p q t slot own) = absurd (own f refl)
         answered f at on (fires g i co soon t slot) = by (cases_eq g.due u)
           where
@@ -130,9 +130,9 @@ module _ {X : Type 0} {j : ℕ} {l : Log X} {es : List (Event X)} (c : Course j 
             let g = comes (s_at c n) j (slot_at c n) action u promised in
             absurd (omega (arith, quiet refl g.0 g.1, g.2))
         none at (moves d x i grows slot) = no_next {e = serve d x (Ok (s_at c (suc n)))} refl (sym i)
-        none at (starts job first given p q t free slot kind st empty) = none_some p
-        none at (ended p q t slot own) = true_false (sym q)
-        none at (fires g i co soon t slot) = let z : ◌≡◌ {A = ℕ} 0 1 = cc in absurd (omega arith)
+        none at (starts job first given p q t free slot kind st empty) = cc
+        none at (ended p q t slot own) = cc
+        none at (fires g i co soon t slot) = cc
 
         by_answer : (r : Option Firing) → At es n (next r) → On (suc n) → Coming n u s action
         by_answer None at on = none at (c.change n (next None) at)
@@ -168,7 +168,7 @@ module _ {X : Type 0} {j : ℕ} {l : Log X} {es : List (Event X)} (c : Course j 
         by : (p < k) ⊎ (k ≤ p) → sets j e ≡ None
         by (inl h) =
             let f = between k h high in
-            let same_e : e ≡ next (Some f.0) = some_same (sym at ∙ f.1) in
+            let same_e : e ≡ next (Some f.0) = cc (sym at ∙ f.1) in
             ap (λ (y : Event X). sets j y) same_e
         by (inr h) = kept_slot c i p u job.action base (not_reached c i u p reached) reached.stood reached.within k e low h at
 
@@ -222,14 +222,14 @@ module _ {X : Type 0} {j : ℕ} {l : Log X} {es : List (Event X)} (c : Course j 
     later_first : Later (suc q)
     later_first s g co =
         let w = fired_at q f reports own in
-        let st : SteadySlot (slot_at c q) = steady c q (omega (arith, within es q (next (Some f)) reports)) in
+        let st : SteadySlot (slot_at c q) = steady c q (omega (arith, slice_get_within es q (next (Some f)) reports)) in
         fired_later (s_at c q) s j (slot_at c q) f g st w.comes_now (rw w.slot at co)
 
     later_next : (n : ℕ) (e : Event X) → n ≤ length es → sets j e ≡ None → Later n → ChangeAt c n e → Later (suc n)
     later_next n e near none before (same a b t slot other quiet) = later_same n (suc n) slot before
     later_next n e near none before (moves d x m grows slot) = later_same n (suc n) slot before
-    later_next n e near none before (starts job first given a b t free slot kind st empty) = some_none (sym a ∙ none)
-    later_next n e near none before (ended a b t slot other) = λ s g co. none_some (rw slot at co)
+    later_next n e near none before (starts job first given a b t free slot kind st empty) = cc (sym a ∙ none)
+    later_next n e near none before (ended a b t slot other) = λ s g co. cc (rw slot at co)
     later_next n e near none before (fires h m co soon t slot) = λ s g co'.
         omega (arith, before (s_at c n) h co, fired_later (s_at c n) s j (slot_at c n) h g (steady c n near) co (rw slot at co'))
 
@@ -247,7 +247,7 @@ module _ {X : Type 0} {j : ℕ} {l : Log X} {es : List (Event X)} (c : Course j 
     pub no_second : (q' : ℕ) (g : Firing) → At es q' (next (Some g)) → g.slot ≡ j → q < q' → NoSetUp j es q q' → f.due ≡ g.due → ⊥
     no_second q' g at' own' low none e =
         let w = fired_at q' g at' own' in
-        omega (arith, always_later q' (omega (arith, within es q' (next (Some g)) at')) none q' low (omega arith) (s_at c q') g w.comes_now)
+        omega (arith, always_later q' (omega (arith, slice_get_within es q' (next (Some g)) at')) none q' low (omega arith) (s_at c q') g w.comes_now)
 
   pub unrepeated : Unrepeated l.moment j es
   unrepeated i first u q s q' s' job set r r' = by (cases_order q q')

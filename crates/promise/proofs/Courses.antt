@@ -1,13 +1,13 @@
 -- The course of a run: the log before each event, whether it is emptied there, and how both go from event to event. Assumes nothing.
-use Rattle.std.proofs.Common.{◌≡◌, ℕ, zero, suc, ◌<◌, ◌≤◌, Bool, true, ◌||◌, T, ◌⊎◌, List, [], ◌∷◌, length, take, replicate, refl, ap, ◌∙◌, subst, inl, inr}
+use Rattle.std.proofs.Common.{◌≡◌, ℕ, zero, suc, ◌<◌, ◌≤◌, Bool, true, ◌||◌, T, ◌⊎◌, List, [], ◌∷◌, length, take, replicate, Some, refl, ap, ◌∙◌, subst, inl, inr, arith}
 use Rattle.std.proofs.lemmas.List.{get_or-replicate, get_or_past}
 use Rattle.std.proofs.lemmas.Bool.{cases_lt}
+use Rattle.std.specs.List.{slice_get}
 use Rattle.jobs.specs.declared.Slot.{Slot}
 use Rattle.jobs.specs.declared.Slot.TheVariants.{Free}
 use Rattle.logger.specs.State.{Log, slot_of}
 use Rattle.promise.specs.Runs.{Event, Run, done, then, Step, is_next, emptied_by, Emptied}
 use Rattle.promise.specs.Words.{moment_after, At}
-use Rattle.promise.proofs.Basics.{none_some, some_same}
 use Rattle.promise.proofs.Changes.{Change, changed}
 use Rattle.promise.proofs.Frames.{framed}
 
@@ -25,8 +25,8 @@ module _ {X : Type 0} where
 
   step_at : {l l' : Log X} {es : List (Event X)} (r : Run l es l') (n : ℕ) (e : Event X) → At es n e → Step (state_at r n) e (state_at r (suc n))
   unfolding state_at
-  step_at done n e at = none_some at
-  step_at (then {l = l} {m = m} a r) zero e at = subst (λ (x : Event X). Step l x m) (some_same at) a
+  step_at done n e at = cc
+  step_at (then {l = l} {m = m} {e = x} a r) zero e at = let is : x ≡ e = cc in subst (λ (x : Event X). Step l x m) is a
   step_at (then a r) (suc n) e at = step_at r n e at
 
   moment_state : {l l' : Log X} {es : List (Event X)} (r : Run l es l') (n : ℕ) → (state_at r n).moment ≡ moment_after l.moment (take n es)
@@ -44,20 +44,26 @@ module _ {X : Type 0} where
 
   calm_at : (b : Bool) (es : List (Event X)) → Emptied b es → (n : ℕ) (e : Event X) → At es n e → T (emptied_at b es n || is_next e)
   unfolding emptied_at
-  calm_at b [] em n e at = none_some at
-  calm_at b (x ∷ es) em zero e at = subst (λ (y : Event X). T (b || is_next y)) (some_same at) em.0
+  calm_at b [] em n e at = cc
+  calm_at b (x ∷ es) em zero e at = let is : x ≡ e = cc in subst (λ (y : Event X). T (b || is_next y)) is em.0
   calm_at b (x ∷ es) em (suc n) e at = calm_at (emptied_by b x) es em.1 n e at
 
   turns_at : (b : Bool) (es : List (Event X)) (n : ℕ) (e : Event X) → At es n e → emptied_at b es (suc n) ≡ emptied_by (emptied_at b es n) e
   unfolding emptied_at
-  turns_at b [] n e at = none_some at
-  turns_at b (x ∷ es) zero e at = ap (λ (y : Event X). emptied_by b y) (some_same at)
+  turns_at b [] n e at = cc
+  turns_at b (x ∷ es) zero e at = cc
   turns_at b (x ∷ es) (suc n) e at = turns_at (emptied_by b x) es n e at
 
   over_at : (b : Bool) (es : List (Event X)) → Emptied b es → T (emptied_at b es (length es))
   unfolding emptied_at
   over_at b [] em = em
   over_at b (x ∷ es) em = over_at (emptied_by b x) es em.1
+
+-- every place within a list has something
+pub there : {B : Type 0} (xs : List B) (n : ℕ) → n < length xs → (x : B) × (slice_get xs n ≡ Some x)
+there [] n h = absurd (omega arith)
+there (y ∷ xs) zero h = (y, refl)
+there (y ∷ xs) (suc n) h = there xs n (omega arith)
 
 -- a run as it is seen at slot j
 pub record Course {X : Type 0} (j : ℕ) (l : Log X) (es : List (Event X)) : Type 0 where

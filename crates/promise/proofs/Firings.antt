@@ -9,7 +9,6 @@ use Rattle.jobs.specs.declared.Action.{Action}
 use Rattle.jobs.specs.declared.Firing.{Firing}
 use Rattle.slots.specs.Slots.{coming, fired, stand_on, again}
 use Rattle.promise.specs.Words.{DueMoment}
-use Rattle.promise.proofs.Basics.{none_some, some_same}
 
 -- an errand fires once
 abbrev pub kind_by : Bool → Kind → Kind
@@ -50,12 +49,12 @@ steady_by false kind s = s
 
 module _ (s j : ℕ) where
   pub promises_now : (slot : Slot) (f : Firing) → SteadySlot slot → coming s j slot ≡ Some f → Promises slot f.action f.due
-  promises_now Free f steady e = none_some e
+  promises_now Free f steady e = cc
   promises_now (Standing due job errand) f steady e =
-      let same : record { slot = j; due = due; at = s; action = job.action } ≡ f = some_same e in
+      let same : record { slot = j; due = due; at = s; action = job.action } ≡ f = cc in
       subst (λ (x : Firing). DueMoment (kind_by errand job.kind) due x.due × (job.action ≡ x.action)) same
       (now_due (kind_by errand job.kind) due (steady_by errand job.kind steady), refl)
-  promises_now (Waiting due) f steady e = none_some e
+  promises_now (Waiting due) f steady e = cc
 
   -- a slot with a promise has a firing to come, no later
   pub comes : (slot : Slot) (action : Action) (u : ℕ) → Promises slot action u
@@ -86,10 +85,10 @@ module _ (s j : ℕ) where
       → Promises (fired slot) action u
   fired_keeps Free action u f p e other = absurd p
   fired_keeps (Standing due job true) action u f p e other =
-      let same : record { slot = j; due = due; at = s; action = job.action } ≡ f = some_same e in
+      let same : record { slot = j; due = due; at = s; action = job.action } ≡ f = cc in
       absurd (other (sym (ap (λ (x : Firing). x.due) same) ∙ sym p.0))
   fired_keeps (Standing due job false) action u f p e other =
-      let same : record { slot = j; due = due; at = s; action = job.action } ≡ f = some_same e in
+      let same : record { slot = j; due = due; at = s; action = job.action } ≡ f = cc in
       again_keeps job.kind due job.action action u p.0 p.1 (λ d. other (sym (ap (λ (x : Firing). x.due) same) ∙ d))
   fired_keeps (Waiting due) action u f p e other = absurd p
 
@@ -128,19 +127,19 @@ fired_steady (Waiting due) s = tt
 
 -- the next firing of a slot is due later than the one before
 again_later : (s j : ℕ) (kind : Kind) (due : ℕ) (action : Action) (g : Firing) → Steady kind → coming s j (again due action kind) ≡ Some g → due < g.due
-again_later s j Once due action g st e = none_some e
+again_later s j Once due action g st e = cc
 again_later s j (Every period) due action g st e =
-    let same : due + period ≡ g.due = ap (λ (x : Firing). x.due) (some_same e) in omega arith
+    let same : due + period ≡ g.due = cc in omega arith
 again_later s j (Burst count period) due action g st e = go (ltb 1 count) e
   where
     go : (b : Bool) → coming s j (stand_on due action (cond b (Some (period, Burst (count - 1) period)) None)) ≡ Some g → due < g.due
-    go true e = let same : due + period ≡ g.due = ap (λ (x : Firing). x.due) (some_same e) in omega arith
-    go false e = none_some e
+    go true e = let same : due + period ≡ g.due = cc in omega arith
+    go false e = cc
 
 pub fired_later : (s s' j : ℕ) (slot : Slot) (f g : Firing) → SteadySlot slot → coming s j slot ≡ Some f → coming s' j (fired slot) ≡ Some g → f.due < g.due
-fired_later s s' j Free f g st p q = none_some p
-fired_later s s' j (Standing due job true) f g st p q = none_some q
+fired_later s s' j Free f g st p q = cc
+fired_later s s' j (Standing due job true) f g st p q = cc
 fired_later s s' j (Standing due job false) f g st p q =
-    let same : due ≡ f.due = ap (λ (x : Firing). x.due) (some_same p) in
+    let same : due ≡ f.due = cc in
     omega (arith, again_later s' j job.kind due job.action g st q)
-fired_later s s' j (Waiting due) f g st p q = none_some p
+fired_later s s' j (Waiting due) f g st p q = cc

@@ -1,4 +1,3 @@
-pub mod Basics
 pub mod Firings
 pub mod Changes
 pub mod Frames

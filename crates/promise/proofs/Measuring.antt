@@ -1,13 +1,13 @@
 -- How the stack's measure goes on with accepted serves. Assumes nothing.
 use Rattle.std.proofs.Common.{◌≡◌, ℕ, zero, suc, ◌+◌, ◌-◌, ◌≤◌, List, [], ◌∷◌, length, take, Some, None, Ok, Option, sym, refl, ap, ◌∙◌, subst, add-zero, arith}
+use Rattle.std.proofs.lemmas.Option.{slice_get_within}
 use Rattle.clock.specs.Meaning.{Meaning, Counts}
 use Rattle.logger.specs.State.{Log}
 use Rattle.promise.specs.Runs.{Event, serve}
 use Rattle.promise.specs.Words.{Reading, reading, passed, true_ticks, At}
 use Rattle.promise.specs.Promise.{Measured}
-use Rattle.promise.proofs.Basics.{none_some, some_same, there, within}
 use Rattle.promise.proofs.Frames.{framed, stack_by, gained}
-use Rattle.promise.proofs.Courses.{Course}
+use Rattle.promise.proofs.Courses.{there, Course}
 
 module _ {g : ℕ → ℕ} (c : Counts g) where
   -- a measure never falls
@@ -26,8 +26,8 @@ module _ {g : ℕ → ℕ} (c : Counts g) where
   }
 
 ticks_more : {X : Type 0} (es : List (Event X)) (n : ℕ) (e : Event X) → At es n e → true_ticks (take (suc n) es) ≡ true_ticks (take n es) + passed (reading e)
-ticks_more [] n e here = none_some here
-ticks_more {X} (x ∷ es) zero e here = ap (λ (y : Event X). passed (reading y) + 0) (some_same here) ∙ omega arith
+ticks_more [] n e here = cc
+ticks_more {X} (x ∷ es) zero e here = let is : x ≡ e = cc in ap (λ (y : Event X). passed (reading y) + 0) is ∙ omega arith
 ticks_more (x ∷ es) (suc n) e here = ap (λ k. passed (reading x) + k) (ticks_more es n e here) ∙ omega arith
 
 module _ {X : Type 0} {j : ℕ} {l : Log X} {es : List (Event X)} (c : Course j l es) (law : Counts l.stack.measure) where
@@ -89,7 +89,7 @@ module _ {X : Type 0} {j : ℕ} {l : Log X} {es : List (Event X)} (c : Course j 
   pub measured : Measured l.moment j es l.stack
   measured i d t sample here =
       let f = framed (c.state i) (c.state (suc i)) (serve d sample (Ok t)) (c.step i (serve d sample (Ok t)) here) in
-      sym f.moment ∙ (gone (suc i) (within es i (serve d sample (Ok t)) here)).moment
+      sym f.moment ∙ (gone (suc i) (slice_get_within es i (serve d sample (Ok t)) here)).moment
 
   counts_by : (m m' : Meaning X) (r : Option Reading) → m' ≡ stack_by m r → Counts m.measure → Counts m'.measure
   counts_by m m' None e k = subst (λ (y : Meaning X). Counts y.measure) (sym e) k

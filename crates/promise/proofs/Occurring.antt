@@ -1,12 +1,11 @@
 -- The example's runs are runs. Assumes nothing.
-use Rattle.std.proofs.Common.{◌≡◌, ℕ, zero, suc, ◌+◌, ◌%◌, ◌<◌, ◌≤◌, sym, refl, ap, inr, arith}
+use Rattle.std.proofs.Common.{◌≡◌, ℕ, zero, suc, ◌+◌, ◌%◌, ◌<◌, ◌≤◌, refl, ap, inr, arith}
 use Rattle.clock.specs.Hold.{first_from}
 use Rattle.up.specs.declared.up.Word.{Word}
-use Rattle.promise.specs.Runs.{Run, done, then, Event}
+use Rattle.promise.specs.Runs.{Run, done, then}
 use Rattle.promise.specs.Example.{left_log, left_run, right_log, right_run, Occurs, Occurring}
 use Rattle.logger.specs.State.{Log}
-use Rattle.promise.specs.Words.{sets, ends, moment_at, NoSetUp, NoEnd}
-use Rattle.promise.proofs.Basics.{some_same}
+use Rattle.promise.specs.Words.{moment_at, NoSetUp, NoEnd}
 
 left_goes : (l : Log Word) × Run left_log left_run l
 unfolding first_from
@@ -59,15 +58,15 @@ not_yet (suc (suc (suc q))) low high = absurd (omega arith)
 
 stays : NoEnd 2 left_run 0 3
 stays zero e low high here = absurd (omega arith)
-stays (suc zero) e low high here = ap (λ (y : Event Word). ends 2 y) (sym (some_same here))
-stays (suc (suc zero)) e low high here = ap (λ (y : Event Word). ends 2 y) (sym (some_same here))
+stays (suc zero) e low high here = cc
+stays (suc (suc zero)) e low high here = cc
 stays (suc (suc (suc c))) e low high here = absurd (omega arith)
 
 only_one : NoSetUp 2 left_run 0 4
 only_one zero e low high here = absurd (omega arith)
-only_one (suc zero) e low high here = ap (λ (y : Event Word). sets 2 y) (sym (some_same here))
-only_one (suc (suc zero)) e low high here = ap (λ (y : Event Word). sets 2 y) (sym (some_same here))
-only_one (suc (suc (suc zero))) e low high here = ap (λ (y : Event Word). sets 2 y) (sym (some_same here))
+only_one (suc zero) e low high here = cc
+only_one (suc (suc zero)) e low high here = cc
+only_one (suc (suc (suc zero))) e low high here = cc
 only_one (suc (suc (suc (suc c)))) e low high here = absurd (omega arith)
 
 pub occurs : Occurs

@@ -15,7 +15,6 @@ use Rattle.logger.specs.Calls.{after_set_up, ticketed, settle_answer, freed}
 use Rattle.table.proofs.Soonest.{coming_slot}
 use Rattle.promise.specs.Runs.{Event, serve, set_up, errand, call_off, settle, next, hold, Step, Run, done, then, is_next, emptied_by, Emptied}
 use Rattle.promise.specs.Words.{when, listed, brought, Shared, moment_read, asks_set_up, asks_errand, asks_call_off, asks_settle, own_ticket, shared, Seen, moment_seen, set_up_told, errand_told, call_off_told, settle_told, reported, numberless, seen}
-use Rattle.promise.proofs.Basics.{none_some, some_same, true_false, ok_err}
 use Rattle.promise.proofs.Changes.{Change, same, moves, starts, ended, fires, Rests, changed, no_next, set_up_fits, slot_set_other, here, free_here}
 use Rattle.promise.proofs.Frames.{framed}
 use Rattle.promise.proofs.Standing.{rests_next, rests_free}
@@ -145,9 +144,9 @@ module _ (j : ℕ) where
   -- what is asked decides all of it
   one_course : (s : ℕ) (slot : Slot) (os ps : List Own) → Alone s slot os → Alone s slot ps → brought asked os ≡ brought asked ps → os ≡ ps
   one_course s slot [] [] x y e = refl
-  one_course s slot [] (call a b ∷ ps) x y e = let z : ◌≡◌ {A = ℕ} 0 1 = cc in absurd (omega arith)
+  one_course s slot [] (call a b ∷ ps) x y e = cc
   one_course s slot [] (report b ∷ ps) x y e = busy s slot b x y.0
-  one_course s slot (call a b ∷ os) [] x y e = let z : ◌≡◌ {A = ℕ} 0 1 = cc in absurd (omega arith)
+  one_course s slot (call a b ∷ os) [] x y e = cc
   one_course s slot (call a b ∷ os) (call a' b' ∷ ps) x y e =
       let aa : a' ≡ a = cc in
       let rest : brought asked os ≡ brought asked ps = cc in
@@ -159,7 +158,7 @@ module _ (j : ℕ) where
   one_course s slot (report b ∷ os) [] x y e = busy s slot b y x.0
   one_course s slot (report b ∷ os) (call a' b' ∷ ps) x y e = busy s slot b y.0 x.0
   one_course s slot (report b ∷ os) (report b' ∷ ps) x y e =
-      let ff : x.0.firing ≡ y.0.firing = some_same (sym x.0.comes_now ∙ y.0.comes_now) in
+      let ff : x.0.firing ≡ y.0.firing = cc (sym x.0.comes_now ∙ y.0.comes_now) in
       let bb : b ≡ b' = x.0.is ∙ ap (λ (f : Firing). reported f.due f.at f.action) ff ∙ sym y.0.is in
       let tail : os ≡ ps = one_course s (fired slot) os ps x.1 y.1 e in
       cc
@@ -248,7 +247,7 @@ module _ {X : Type 0} (j : ℕ) (l m : Log X) (sized : length l.slots ≡ 32) wh
   heard_call_off k r a false t = other_freed k r (eqb-false k j t) a.after
 
   foreign : (ticket : Ticket) (r : Result Outcome Fault) → r ≡ settle_answer l ticket → eqb ticket.number l.number ≡ false → m ≡ freed l ticket.slot r → m ≡ l
-  foreign ticket (Ok y) answer t after = ok_err (answer ∙ cond-false _ _ _ t)
+  foreign ticket (Ok y) answer t after = cc (answer ∙ cond-false _ _ _ t)
   foreign ticket (Err f) answer t after = after
 
   heard_settle : (ticket : Ticket) (r : Result Outcome Fault) → Step l (settle ticket r) m → (b : Bool) → own_ticket l.number j ticket ≡ b
@@ -275,7 +274,7 @@ module _ {X : Type 0} (j : ℕ) (l m : Log X) (sized : length l.slots ≡ 32) wh
   heard_next f (same p q s slot other quiet) true t = absurd (other f refl (eqb-true f.slot j t))
   heard_next f (same p q s slot other quiet) false t = (s, slot)
   heard_next f (moves d x i grows slot) b t = no_next {e = serve d x (Ok m.moment)} refl (sym i)
-  heard_next f (starts job first given p q s free slot kind st empty) b t = none_some p
+  heard_next f (starts job first given p q s free slot kind st empty) b t = cc
   heard_next f (ended p q s slot other) b t = absurd (other f refl)
   heard_next f (fires g i co due s slot) true t =
       let gf : g ≡ f = sym (next_same i) in
@@ -309,7 +308,7 @@ module _ {X : Type 0} (j : ℕ) (l m : Log X) (sized : length l.slots ≡ 32) wh
 
 truly : (b a : Bool) → T (b || a) → a ≡ false → b ≡ true
 truly true a t e = refl
-truly false true t e = true_false e
+truly false true t e = cc
 truly false false t e = absurd t
 
 yes_true : (b : Bool) → T b → b ≡ true

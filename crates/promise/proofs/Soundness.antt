@@ -1,5 +1,6 @@
 -- Every report is of a due moment that was reached, of the slot's last set-up. Assumes nothing.
 use Rattle.std.proofs.Common.{◌≡◌, ℕ, zero, suc, ◌+◌, ◌-◌, ◌<◌, ◌≤◌, false, ◌⊎◌, List, length, Some, None, sym, refl, ap, ◌∙◌, subst, inl, inr, ⊎_elim, arith}
+use Rattle.std.proofs.lemmas.Option.{slice_get_within}
 use Rattle.std.proofs.lemmas.Bool.{cases_lt, cases_eq}
 use Rattle.jobs.specs.declared.Slot.{Slot}
 use Rattle.jobs.specs.declared.Slot.TheVariants.{Free, Standing}
@@ -10,10 +11,9 @@ use Rattle.logger.specs.State.{Log}
 use Rattle.promise.specs.Runs.{Event, next}
 use Rattle.promise.specs.Words.{sets, ends, DueMoment, moment_at, At, FirstEmptying, NoSetUp, NoEnd, SetUpAt, ReachedBy, ReportedAt}
 use Rattle.promise.specs.Promise.{Sound}
-use Rattle.promise.proofs.Basics.{some_same, there, within}
 use Rattle.promise.proofs.Firings.{Promises, promises_now, fired_from}
 use Rattle.promise.proofs.Changes.{same, moves, starts, ended, fires}
-use Rattle.promise.proofs.Courses.{Course}
+use Rattle.promise.proofs.Courses.{there, Course}
 use Rattle.promise.proofs.Standing.{s_at, slot_at, ChangeAt, steady, moment_before}
 use Rattle.promise.proofs.Completeness.{firing_is, fired_at, Told, told, unrepeated}
 
@@ -84,7 +84,7 @@ module _ {X : Type 0} {j : ℕ} {l : Log X} {es : List (Event X)} (c : Course j 
   }
     where
       same_event : (k : ℕ) (e' : Event X) → At es k e' → k ≡ n → e ≡ e'
-      same_event k e' there_e kn = some_same (sym here ∙ subst (λ m. At es m e') kn there_e)
+      same_event k e' there_e kn = cc (sym here ∙ subst (λ m. At es m e') kn there_e)
 
       by_own : (k : ℕ) (e' : Event X) → o.place < k → k < suc n → At es k e' → (k ≡ n) ⊎ (k ≡ n → ⊥) → sets j e' ≡ None
       by_own k e' low high there_e (inl kn) = subst (λ (y : Event X). sets j y ≡ None) (same_event k e' there_e kn) none
@@ -136,7 +136,7 @@ module _ {X : Type 0} {j : ℕ} {l : Log X} {es : List (Event X)} (c : Course j 
   pub sound : Sound l.moment j es
   sound q f reports own =
       let w = fired_at c q f reports own in
-      let near : q < length es = within es q (next (Some f)) reports in
+      let near : q < length es = slice_get_within es q (next (Some f)) reports in
       let o = origin q (omega arith) f.action f.due (promises_now (s_at c q) j (slot_at c q) f (steady c q (omega arith)) w.comes_now) in
       from o (pred_of q o.place o.before) near w.due
     where

@@ -8,18 +8,17 @@ use Rattle.jobs.specs.declared.Action.{Action}
 use Rattle.logger.specs.State.{Log, slot_of}
 use Rattle.promise.specs.Runs.{Event, serve, set_up, errand, call_off, settle, next, hold, emptied_by}
 use Rattle.promise.specs.Words.{sets, moment_at, At, NoEnd, SetUpAt, ReachedBy}
-use Rattle.promise.proofs.Basics.{none_some, some_same, true_false, there}
 use Rattle.promise.proofs.Firings.{kind_by, Promises, SteadySlot, fired_keeps, fired_steady}
 use Rattle.promise.proofs.Changes.{Change, same, moves, starts, ended, fires, Rests}
-use Rattle.promise.proofs.Courses.{Course}
+use Rattle.promise.proofs.Courses.{there, Course}
 
 -- a logger is emptied after an event only if it was before, or by a next that answers none
 still_empty : {X : Type 0} (b : Bool) (e : Event X) → emptied_by b e ≡ true → (b ≡ true) ⊎ (e ≡ next None)
-still_empty b (serve d x (Ok t)) h = true_false (sym h)
+still_empty b (serve d x (Ok t)) h = cc
 still_empty b (serve d x (Err f)) h = inl h
-still_empty b (set_up k reference delay job (Ok u)) h = true_false (sym h)
+still_empty b (set_up k reference delay job (Ok u)) h = cc
 still_empty b (set_up k reference delay job (Err f)) h = inl h
-still_empty b (errand k reference delay action (Ok u)) h = true_false (sym h)
+still_empty b (errand k reference delay action (Ok u)) h = cc
 still_empty b (errand k reference delay action (Err f)) h = inl h
 still_empty b (call_off k r) h = inl h
 still_empty b (settle ticket r) h = inl h
@@ -32,15 +31,15 @@ pub rests_same : (j s s' : ℕ) (slot slot' : Slot) → s' ≡ s → slot' ≡ s
 rests_same j s s' slot slot' p q h = rw (p, q) h
 
 pub rests_free : (j s : ℕ) (slot : Slot) → slot ≡ Free → Rests j s slot
-rests_free j s slot e = rw e (λ f p. none_some p)
+rests_free j s slot e = rw e (λ f p. cc)
 
 -- a logger that is emptied after an event has nothing due then, if that was so before
 pub rests_next : {X : Type 0} (j s s' : ℕ) (slot slot' : Slot) (b : Bool) (e : Event X) → (b ≡ true → Rests j s slot) → emptied_by b e ≡ true
     → Change j s slot e s' slot' → Rests j s' slot'
 rests_next j s s' slot slot' b e before after (same p q s-is slot_is own quiet) =
     rests_same j s s' slot slot' s-is slot_is (⊎_elim before quiet (still_empty b e after))
-rests_next {X} j s s' slot slot' b e before after (moves d x i grows slot_is) = true_false (sym after ∙ ap (λ (y : Event X). emptied_by b y) i)
-rests_next j s s' slot slot' b e before after (starts job first given p q s-is free slot_is kind steady empty) = true_false (sym after ∙ empty b)
+rests_next {X} j s s' slot slot' b e before after (moves d x i grows slot_is) = cc (sym after ∙ ap (λ (y : Event X). emptied_by b y) i)
+rests_next j s s' slot slot' b e before after (starts job first given p q s-is free slot_is kind steady empty) = cc (sym after ∙ empty b)
 rests_next j s s' slot slot' b e before after (ended p q s-is slot_is own) = rests_free j s' slot' slot_is
 rests_next {X} j s s' slot slot' b e before after (fires f i co due s-is slot_is) =
     let was : b ≡ true = sym (ap (λ (y : Event X). emptied_by b y) i) ∙ after in
@@ -89,10 +88,10 @@ module _ {X : Type 0} {j : ℕ} {l : Log X} {es : List (Event X)} (c : Course j 
   stood i first job (e, at, sets_it) = by (c.change i e at)
     where
       by : ChangeAt i e → Stood i first job
-      by (same p q s slot own quiet) = none_some (sym p ∙ sets_it)
-      by (moves d x m grows slot) = none_some (sym (ap (λ (y : Event X). sets j y) m) ∙ sets_it)
+      by (same p q s slot own quiet) = cc (sym p ∙ sets_it)
+      by (moves d x m grows slot) = cc (sym (ap (λ (y : Event X). sets j y) m) ∙ sets_it)
       by (starts job' first' given p q s free slot kind steady empty) =
-          let both : ◌≡◌ {A = Job × ℕ} (job', first') (job, first) = some_same (sym p ∙ sets_it) in
+          let both : ◌≡◌ {A = Job × ℕ} (job', first') (job, first) = cc (sym p ∙ sets_it) in
           let job_is : job' ≡ job = ap (λ (y : Job × ℕ). y.0) both in
           let first_is : first' ≡ first = ap (λ (y : Job × ℕ). y.1) both in
           record {
@@ -101,8 +100,8 @@ module _ {X : Type 0} {j : ℕ} {l : Log X} {es : List (Event X)} (c : Course j 
             kind = subst (λ (y : Job). kind_by given y.kind ≡ y.kind) job_is kind;
             empty = c.turns i e at ∙ empty (c.emptied i);
           }
-      by (ended p q s slot own) = none_some (sym p ∙ sets_it)
-      by (fires f m co due s slot) = none_some (sym (ap (λ (y : Event X). sets j y) m) ∙ sets_it)
+      by (ended p q s slot own) = cc (sym p ∙ sets_it)
+      by (fires f m co due s slot) = cc (sym (ap (λ (y : Event X). sets j y) m) ∙ sets_it)
 
   -- up to the event that reaches it, a promise stands
   module _ (i p u : ℕ) (action : Action) (base : Promises (slot_at (suc i)) action u)
@@ -113,7 +112,7 @@ module _ {X : Type 0} {j : ℕ} {l : Log X} {es : List (Event X)} (c : Course j 
     stands_next n e at low high before (moves d x m grows slot) = rw slot before
     stands_next n e at low high before (starts job first given p q s free slot kind steady empty) =
         let none : Promises Free action u = subst (λ (y : Slot). Promises y action u) free before in absurd none
-    stands_next n e at low high before (ended p q s slot own) = true_false (sym q ∙ no_end n e low high at)
+    stands_next n e at low high before (ended p q s slot own) = cc (sym q ∙ no_end n e low high at)
     stands_next n e at low high before (fires f m co due s slot) =
         rw slot (fired_keeps (s_at n) j (slot_at n) action u f before co (λ same. omega (arith, early n low (omega arith))))
 

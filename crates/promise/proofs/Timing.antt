@@ -1,5 +1,6 @@
 -- A serve no later than hold asked passes no due moment by. Assumes nothing.
 use Rattle.std.proofs.Common.{◌≡◌, ℕ, zero, suc, ◌+◌, ◌-◌, ◌<◌, ◌≤◌, Bool, true, false, cond, ◌||◌, T, eqb, ◌⊎◌, List, length, get_or, Some, None, Ok, Option, sym, refl, ap, ◌∙◌, subst, inl, inr, arith}
+use Rattle.std.proofs.lemmas.Option.{slice_get_within}
 use Rattle.std.proofs.lemmas.Bool.{cases_lt, cases_eq}
 use Rattle.clock.specs.Meaning.{Meaning, Counts}
 use Rattle.clock.specs.Hold.{wait_for, Waits}
@@ -15,7 +16,6 @@ use Rattle.table.proofs.Nearest.{Answer, answered}
 use Rattle.promise.specs.Runs.{Event, serve, next, hold}
 use Rattle.promise.specs.Words.{At, AsHeld, SetUpAt, ReportedAt}
 use Rattle.promise.specs.Promise.{Timely}
-use Rattle.promise.proofs.Basics.{none_some, some_same, true_false, within}
 use Rattle.promise.proofs.Firings.{comes}
 use Rattle.promise.proofs.Changes.{same, moves, starts, ended, fires, Rests}
 use Rattle.promise.proofs.Frames.{framed}
@@ -31,15 +31,15 @@ pub record Near (s : ℕ) (slots : List Slot) (due : ℕ) : Type 0 where
   pub low : left ≤ due - s
 
 distance_of : (s m : ℕ) (slot : Slot) (f : Firing) → coming s m slot ≡ Some f → distance s slot ≡ Some (f.due - s)
-distance_of s m Free f co = none_some co
-distance_of s m (Standing due job b) f co = ap (λ (y : Firing). Some (y.due - s)) (some_same co)
-distance_of s m (Waiting due) f co = none_some co
+distance_of s m Free f co = cc
+distance_of s m (Standing due job b) f co = cc
+distance_of s m (Waiting due) f co = cc
 
 pub near : (s : ℕ) (slots : List Slot) (j : ℕ) (f : Firing) → coming s j (get_or slots j Free) ≡ Some f → Near s slots f.due
 near s slots j f co = by (nearest s slots) refl (answered s slots)
   where
     by : (o : Option ℕ) → nearest s slots ≡ o → Answer s slots o → Near s slots f.due
-    by None e a = none_some (sym (a j) ∙ distance_of s j (get_or slots j Free) f co)
+    by None e a = cc (sym (a j) ∙ distance_of s j (get_or slots j Free) f co)
     by (Some left) e a = record { left = left; is = e; low = a.least j (f.due - s) (distance_of s j (get_or slots j Free) f co) }
 
 -- where the measure stays below up to n, it has come no further than there at n
@@ -92,7 +92,7 @@ module _ {X : Type 0} {j : ℕ} {l : Log X} {es : List (Event X)} (c : Course j 
   after_next : (h n : ℕ) (r : Option Firing) → At es n (next r) → Unchanged h n → Unchanged h (suc n)
   after_next h n r here u =
       let f = framed (c.state n) (c.state (suc n)) (next r) (c.step n (next r) here) in
-      let near_end : n < length es = within es n (next r) here in
+      let near_end : n < length es = slice_get_within es n (next r) here in
       record {
         stack = f.stack ∙ u.stack;
         moment = f.moment ∙ u.moment;
@@ -103,8 +103,8 @@ module _ {X : Type 0} {j : ℕ} {l : Log X} {es : List (Event X)} (c : Course j 
       kept : Rests j (s_at c n) (slot_at c n) → ChangeAt c n (next r) → slot_at c (suc n) ≡ slot_at c n
       kept quiet (same p q t slot own rest) = slot
       kept quiet (moves d x i grows slot) = slot
-      kept quiet (starts job first given p q t free slot kind st empty) = none_some p
-      kept quiet (ended p q t slot own) = true_false (sym q)
+      kept quiet (starts job first given p q t free slot kind st empty) = cc
+      kept quiet (ended p q t slot own) = cc
       kept quiet (fires g i co soon t slot) = absurd (omega (arith, quiet g co))
 
   unchanged : (h p n : ℕ) → At es h (hold n) → ((k : ℕ) → h < k → k < p → (r : Option Firing) × At es k (next r)) → (m : ℕ) → h < m → m ≤ p → Unchanged h m
@@ -123,7 +123,7 @@ module _ {X : Type 0} {j : ℕ} {l : Log X} {es : List (Event X)} (c : Course j 
       → s_at c p < g.due → s_at c (suc p) ≤ g.due
   not_passed p d t sample here held g co ahead =
       let h = held.place in
-      let near_end : p < length es = within es p (serve d sample (Ok t)) here in
+      let near_end : p < length es = slice_get_within es p (serve d sample (Ok t)) here in
       let u = unchanged h p held.answer held.held held.between p held.before (omega arith) in
       let co' : coming (s_at c h) j (slot_at c h) ≡ Some g = subst (λ k. coming k j (slot_at c h) ≡ Some g) u.moment (subst (λ (y : Slot). coming (s_at c p) j y ≡ Some g) u.slot co) in
       let n = near (s_at c h) (c.state h).slots j g co' in
@@ -152,6 +152,6 @@ module _ {X : Type 0} {j : ℕ} {l : Log X} {es : List (Event X)} (c : Course j 
     where
       later : SetUpAt j es i job first → (i ≡ p) ⊎ (i ≡ p → ⊥) → i < p
       later (e, at_i, sets_it) (inl ip) =
-          let same_event : serve d sample (Ok t) ≡ e = some_same (sym here ∙ subst (λ k. At es k e) ip at_i) in
-          none_some (ap (λ (y : Event X). Rattle.promise.specs.Words.sets j y) same_event ∙ sets_it)
+          let same_event : serve d sample (Ok t) ≡ e = cc (sym here ∙ subst (λ k. At es k e) ip at_i) in
+          cc (ap (λ (y : Event X). Rattle.promise.specs.Words.sets j y) same_event ∙ sets_it)
       later (e, at_i, sets_it) (inr other) = omega (arith, reached.from)

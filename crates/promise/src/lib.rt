@@ -21,7 +21,7 @@ fn all_free(slots: &[Slot]) -> bool
 
 // Whether every slot of both loggers is free and their moments are equal, as of two fresh loggers with one start.
 // Two such loggers keep the promise, whatever stacks they stand on; and there are runs that it speaks of.
-#[tactic(auto, using(crate::proofs::Alikeness::each_free))]
+#[tactic(auto, using(crate::proofs::Alikeness::each_free, crate::proofs::Occurring::occurring))]
 pub fn start_alike<C: Alarm, D: Alarm>(a: &Logger<C>, b: &Logger<D>) -> bool
     ensures answer { result ≡ starts_alike (view C.Clock.meaning a.now) (view D.Clock.meaning b.now) }
     ensures promise { T result → Alike (view C.Clock.meaning a.now) (view D.Clock.meaning b.now) }

@@ -1,5 +1,5 @@
 // What a script asks for, line by line.
-ghost use Rattle.std.specs.Prelude.{◌≡◌, ◌≤◌, length};
+ghost use Rattle.std.specs.Prelude.{◌≤◌};
 
 use line::Line;
 
@@ -12,5 +12,4 @@ pub struct Script {
     lines: [Line; 32],
     count: usize,
     ghost within: { count ≤ 32 },
-    ghost table: { length lines ≡ 32 },
 }

@@ -34,7 +34,7 @@ fn close(free: &mut [bool; 32], slot: u8)
     requires { slot < 32 }
     ensures { free.new ≡ slice_set free.old slot false }
 {
-    free[slot as usize] = false;
+    free[usize::from(slot)] = false;
 }
 
 // The lines of a script, where the slots marked in `free` are free at its start.

@@ -2,7 +2,6 @@
 use Rattle.std.proofs.Common.{◌≡◌, T, length, sym, ap, ◌∙◌, subst, true≢false, rules}
 use Rattle.logger.specs.State.{view}
 use Rattle.promise.proofs.Alikeness.{each_free, promised}
-use Rattle.promise.proofs.Occurring.{occurring}
 use Rattle.promise.proofs.start_alike.Goals as goal
 use Rattle.promise.proofs.start_alike.Goals.{then-all_free, else-all_free}
 
@@ -21,9 +20,3 @@ returns-then-free-clause-promise g c t =
     ] in
     promised l k (g.met.C.Clock.lawful c.args.a.now.alarm).counts (g.met.D.Clock.lawful c.args.b.now.alarm).counts
     long long' (subst T (returns-then-free-clause-answer g c) t)
-
-pub returns-then-free-clause-occurs : goal.returns-then-free-clause-occurs
-returns-then-free-clause-occurs g c = occurring
-
-pub returns-else-free-clause-occurs : goal.returns-else-free-clause-occurs
-returns-else-free-clause-occurs g c = occurring
