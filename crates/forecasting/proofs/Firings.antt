@@ -2,6 +2,7 @@
 use Rattle.std.proofs.Common.{◌≡◌, ℕ, zero, suc, ◌+◌, ◌-◌, ◌*◌, ◌<◌, ◌≤◌, Bool, true, false, cond, ltb, ◌⊎◌, List, [], ◌∷◌, length, Some, None, sym, refl, ap, ◌∙◌, subst, inl, inr, ⊎_elim, suc-mul, zero-mul, arith}
 use Rattle.std.specs.Ordering.{is_lt}
 use Rattle.std.specs.List.{AllByRecursion}
+use Rattle.std.specs.Option.{option_map}
 use Rattle.std.proofs.ByRecursion.{All-weaker, all_shuffled}
 use Rattle.std.proofs.lemmas.Bool.{ltb-true, ltb-false, true≢false, cases_order}
 use Rattle.queue.specs.declared.dues.Due.{Due}
@@ -13,7 +14,7 @@ use Rattle.jobs.specs.declared.Kind.{Kind}
 use Rattle.jobs.specs.declared.Kind.TheVariants.{Once, Every, Burst}
 use Rattle.forecasting.specs.declared.pending.Pending.{Pending}
 use Rattle.forecasting.specs.Forecast.{Counts, FiresAt, Among, Ordered}
-use Rattle.forecasting.specs.Pending.{pending_order, again, put_back, fired_first, firings, later_by, spacing}
+use Rattle.forecasting.specs.Pending.{pending_order, again, put_back, fired_first, firings, goes_on, spacing}
 use Rattle.forecasting.proofs.Earliness.{earlier_trans, earlier_reach, all_from_among}
 
 -- x is a firing of one of those that wait
@@ -101,7 +102,7 @@ rests_from d (Every p) q y h =
     ⊎_elim (λ f. inl (f.0, (f.1.0, tt, f.1.2 ∙ one_more f.1.0 p d.moment))) (λ r. inr r) (pends_inserted _ q y h)
 rests_from d (Burst c p) q y h = at (ltb 1 c) (ltb-true 1 c) h
   where
-    at : (t : Bool) → (t ≡ true → 1 < c) → Pends (put_back (cond t (Some (record { due = later_by p d; kind = Burst (c - 1) p })) None) q) y → Rests d (Burst c p) y ⊎ Pends q y
+    at : (t : Bool) → (t ≡ true → 1 < c) → Pends (put_back (option_map (goes_on d) (cond t (Some (p, Burst (c - 1) p)) None)) q) y → Rests d (Burst c p) y ⊎ Pends q y
     at true more h =
         let big = more refl in
         ⊎_elim (λ f. inl (f.0, (f.1.0, omega (arith, f.1.1), f.1.2 ∙ one_more f.1.0 p d.moment))) (λ r. inr r) (pends_inserted _ q y h)
@@ -114,7 +115,7 @@ rests_to d (Every p) q y (inl r) = inserted_pends _ q y (inl (r.0, (r.1.0, tt, r
 rests_to d (Every p) q y (inr h) = inserted_pends _ q y (inr h)
 rests_to d (Burst c p) q y h = at (ltb 1 c) (ltb-false 1 c) h
   where
-    at : (t : Bool) → (t ≡ false → c ≤ 1) → Rests d (Burst c p) y ⊎ Pends q y → Pends (put_back (cond t (Some (record { due = later_by p d; kind = Burst (c - 1) p })) None) q) y
+    at : (t : Bool) → (t ≡ false → c ≤ 1) → Rests d (Burst c p) y ⊎ Pends q y → Pends (put_back (option_map (goes_on d) (cond t (Some (p, Burst (c - 1) p)) None)) q) y
     at true few (inl r) = inserted_pends _ q y (inl (r.0, (r.1.0, omega (arith, r.1.1), r.1.2 ∙ sym (one_more r.1.0 p d.moment))))
     at true few (inr h) = inserted_pends _ q y (inr h)
     at false few (inl r) = let low = few refl in absurd (omega (arith, r.1.1))
@@ -125,7 +126,7 @@ good_again d Once q a off g = g
 good_again d (Every p) q a off g = good_inserted _ q a off g
 good_again d (Burst c p) q a off g = at (ltb 1 c) (ltb-true 1 c)
   where
-    at : (t : Bool) → (t ≡ true → 1 < c) → Good (put_back (cond t (Some (record { due = later_by p d; kind = Burst (c - 1) p })) None) q)
+    at : (t : Bool) → (t ≡ true → 1 < c) → Good (put_back (option_map (goes_on d) (cond t (Some (p, Burst (c - 1) p)) None)) q)
     at true more = let big = more refl in good_inserted _ q (omega arith, a.1) off g
     at false more = g
 

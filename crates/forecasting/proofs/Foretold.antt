@@ -13,8 +13,7 @@ use Rattle.jobs.specs.declared.Kind.TheVariants.{Once, Every, Burst}
 use Rattle.line.specs.declared.line.Line.{Line}
 use Rattle.forecasting.specs.declared.pending.Pending.{Pending}
 use Rattle.forecasting.specs.Forecast.{IsFiring, Among, Ordered, Fewer, Foretells, first_firings, ForecastLaw, all_free}
-use Rattle.forecasting.specs.Pending.{pending, pending_order, spacing}
-use Rattle.forecasting.specs.Plan.{Calm}
+use Rattle.forecasting.specs.Pending.{pending, pending_order, spacing, Calm}
 use Rattle.line.specs.Text.{Lawful}
 use Rattle.script.specs.Text.{Different}
 use Rattle.forecasting.proofs.Earliness.{earlier_trans, earlier_never, all_from_among, all_among, fits_in, ordered_push}

@@ -2,6 +2,7 @@
 use Rattle.std.proofs.Common.{◌≡◌, ℕ, zero, suc, ◌+◌, ◌-◌, ◌*◌, ◌^◌, ◌<◌, ◌≤◌, Bool, true, false, cond, ltb, List, [], ◌∷◌, ◌++◌, map, length, take, drop, set, Some, None, sym, refl, ap, ◌∙◌, subst, add-one, arith}
 use native.Mathlib.Nat.{sub-zero}
 use Rattle.std.specs.List.{AllByRecursion}
+use Rattle.std.specs.Option.{option_map}
 use Rattle.std.proofs.ByRecursion.{All-weaker, all_shuffled}
 use Rattle.std.proofs.lemmas.List.{take_all}
 use Rattle.queue.specs.declared.dues.Due.{Due}
@@ -10,8 +11,7 @@ use Rattle.queue.proofs.Ordered.{shuffled_inserted, shuffled_in_order}
 use Rattle.jobs.specs.declared.Kind.{Kind}
 use Rattle.jobs.specs.declared.Kind.TheVariants.{Once, Every, Burst}
 use Rattle.forecasting.specs.declared.pending.Pending.{Pending}
-use Rattle.forecasting.specs.Pending.{pending_order, again, put_back, fired_first, firings, first_due, after_first, spacing, later_by}
-use Rattle.forecasting.specs.Plan.{Calm}
+use Rattle.forecasting.specs.Pending.{pending_order, again, put_back, fired_first, firings, first_due, after_first, spacing, goes_on, Calm}
 
 none_some : {A : Type 0} {a : A} {as' : List A} → [] ≡ a ∷ as' → ⊥
 none_some {a = a} {as' = as'} e = let z : ◌≡◌ {A = ℕ} 0 1 = cc in omega arith
@@ -62,7 +62,7 @@ calm_again b d Once q early near all = calm_more b (b + 2 ^ 40) q (omega arith) 
 calm_again b d (Every p) q early near all = all_inserted (Calm (b + 2 ^ 40)) _ q (omega arith, near) (calm_more b (b + 2 ^ 40) q (omega arith) all)
 calm_again b d (Burst c p) q early near all = at (ltb 1 c)
   where
-    at : (t : Bool) → AllByRecursion (Calm (b + 2 ^ 40)) (put_back (cond t (Some (record { due = later_by p d; kind = Burst (c - 1) p })) None) q)
+    at : (t : Bool) → AllByRecursion (Calm (b + 2 ^ 40)) (put_back (option_map (goes_on d) (cond t (Some (p, Burst (c - 1) p)) None)) q)
     at true = all_inserted (Calm (b + 2 ^ 40)) _ q (omega arith, near) (calm_more b (b + 2 ^ 40) q (omega arith) all)
     at false = calm_more b (b + 2 ^ 40) q (omega arith) all
 

@@ -1,4 +1,3 @@
--- When the jobs of a script fire: jobs that wait, the plan of them, and the forecast.
+-- When the jobs of a script fire: jobs that wait, and the forecast.
 pub mod Pending
-pub mod Plan
 pub mod Forecast

@@ -1,23 +1,21 @@
 -- Jobs that wait for their next firing: their order, what is left of one after a firing, and the firings of several in order.
 -- Assumes nothing.
-use Rattle.std.specs.Prelude.{◌≡◌, ℕ, zero, suc, ◌+◌, ◌-◌, cond, List, [], ◌∷◌, Some, None, Option, nat_lt}
+use Rattle.std.specs.Prelude.{ℕ, zero, suc, ◌+◌, ◌^◌, ◌<◌, List, [], ◌∷◌, Some, None, Option}
 use Rattle.std.specs.declared.cmp.Ordering.{Ordering}
 use Rattle.std.specs.Cmp.{IsTotalOrder, on_total}
+use Rattle.std.specs.Option.{option_map}
 use Rattle.queue.specs.Due.{due_compare, due_order}
 use Rattle.queue.specs.Order.{inserted}
 use Rattle.queue.specs.declared.dues.Due.{Due}
 use Rattle.jobs.specs.declared.Kind.{Kind}
 use Rattle.jobs.specs.declared.Kind.TheVariants.{Once, Every, Burst}
+use Rattle.jobs.specs.Jobs.{after_firing}
 use Rattle.line.specs.declared.line.Line.{Line}
 use Rattle.forecasting.specs.declared.pending.Pending.{Pending}
 
 -- the order of the due records
 abbrev pub pending_compare : Pending → Pending → Ordering
 pending_compare x y = due_compare x.due y.due
-
--- what `cmp` may answer
-abbrev pub pending_orders : Pending → Pending → Ordering → Type 0
-pending_orders x y r = r ≡ due_compare x.due y.due
 
 abbrev pub pending_order : IsTotalOrder pending_compare
 pending_order = on_total (λ x. x.due) due_order
@@ -30,11 +28,12 @@ pending start l = record { due = record { moment = start + l.delay; slot = l.slo
 abbrev pub later_by : ℕ → Due → Due
 later_by ticks due = record { moment = due.moment + ticks; slot = due.slot }
 
--- what still waits after a firing
+-- what still waits after a firing, of which `after_firing` tells
+abbrev pub goes_on : Due → ℕ × Kind → Pending
+goes_on due next = record { due = later_by next.0 due; kind = next.1 }
+
 abbrev pub again : Due → Kind → Option Pending
-again due Once = None
-again due (Every period) = Some (record { due = later_by period due; kind = Every period })
-again due (Burst count period) = cond (nat_lt 1 count) (Some (record { due = later_by period due; kind = Burst (count - 1) period })) None
+again due kind = option_map (goes_on due) (after_firing kind)
 
 abbrev pub put_back : Option Pending → List Pending → List Pending
 put_back None waiting = waiting
@@ -64,3 +63,7 @@ abbrev pub spacing : Kind → ℕ
 spacing Once = 0
 spacing (Every period) = period
 spacing (Burst count period) = period
+
+-- due before b, and again in fewer than 2^40 ticks
+abbrev pub Calm : ℕ → Pending → Type 0
+Calm b p = (p.due.moment < b) × (spacing p.kind < 2 ^ 40)

@@ -38,6 +38,7 @@ pub fn forecast(
     let loaded = read(script, &[true; 32])?;
     let mut plan = Plan::of(loaded.lines(), start.ticks());
     let most = room(moments, slots);
+    // An index, since of two rows that are written through iter_mut side by side the proof knows nothing.
     for i in 0..most {
         let Some(due) = plan.next() else {
             return Ok(i);

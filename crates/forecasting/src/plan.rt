@@ -1,15 +1,27 @@
-// The jobs of a script, in the order of their next firings.
-ghost use Rattle.std.specs.Prelude.{◌≡◌, ◌≤◌, length};
-
+// The queue of the jobs of a script, with its row.
 use crate::pending::Pending;
 use queue::Queue;
+use std::marker::Model;
 
+// The calls stand apart, since a struct with a model imports all that its file imports.
 mod calls;
 
+// The row has a place for each slot. Clauses see the jobs that stand in it, the next to fire first.
+// It is no generic struct with the table's agenda, since such a struct holds no array of a type parameter.
 #[derive(Drop)]
 pub(crate) struct Plan {
-    row: [Pending; 32],
     queue: Queue,
-    ghost places: { length row ≡ 32 },
-    ghost within: { queue.count ≤ 32 },
+    row: [Pending; 32],
+}
+
+impl Model for Plan {
+    ghost use Rattle.std.specs.Prelude.{◌≡◌, ◌≤◌, List, length};
+    ghost use Rattle.queue.specs.Queue.{queued};
+    ghost use Rattle.forecasting.specs.declared.pending.Pending.{Pending};
+
+    ghost Value = { List Pending };
+
+    ghost view = { λ p. queued p.queue p.row };
+
+    ghost invariant = { λ p. (length p.row ≡ 32) × (p.queue.count ≤ 32) };
 }

@@ -1,8 +1,6 @@
-// A table of scripts and their listings. Each line of standard input is a script, in which `;` stands for byte 10;
+// A table of scripts and their listings. Each line of standard input is a script, in which a `;` stands for byte 10:
 // what is printed is that line, cut at 60 bytes, and then the script's listing.
 #![tactic(auto)]
-
-ghost use Rattle.std.specs.Prelude.{◌≡◌, length};
 
 use listing::listing;
 use std::io;
@@ -15,39 +13,25 @@ const PAGE: usize = 1024;
 const CUT: usize = 60;
 
 fn main(rt: HostRuntime) -> io::Result<()> {
-    let mut input = rt.reader();
-    let mut line = Vec::new(rt.alloc());
-    for _ in 0..u64::MAX {
-        line.clear();
-        if input.read_until(b'\n', &mut line)? == 0 {
-            break;
-        }
-        show(&rt, line.as_mut_slice())?;
+    for line in rt.reader().split(rt.alloc(), b'\n') {
+        show(&rt, line?)?;
     }
     Ok(())
 }
 
-fn show(rt: &HostRuntime, line: &mut [u8]) -> io::Result<()> {
-    let size = line.len().saturating_sub(1);
-    let shown = size.min(CUT);
+fn show(rt: &HostRuntime, mut line: Vec<u8>) -> io::Result<()> {
+    let shown = line.len().min(CUT);
     rt.stdout().write_all(b"> ")?;
-    rt.stdout().write_all(&line[0..shown])?;
+    rt.stdout().write_all(&line[..shown])?;
     rt.stdout().write_all(b"\n")?;
-    put_ends(line);
-    let mut page = [0; PAGE];
-    match listing(&line[0..size], &mut page) {
-        Ok(length) => rt.stdout().write_all(&page[0..length]),
-        Err(fault) => println!(rt; "{fault}"),
-    }
-}
-
-// Puts byte 10 in place of each `;`.
-fn put_ends(line: &mut [u8])
-    ensures { length line.new ≡ length line.old }
-{
-    for byte in line.iter_mut() {
+    for byte in &mut line {
         if *byte == b';' {
             *byte = b'\n';
         }
+    }
+    let mut page = [0; PAGE];
+    match listing(&line, &mut page) {
+        Ok(length) => rt.stdout().write_all(&page[..length]),
+        Err(fault) => println!(rt; "{fault}"),
     }
 }

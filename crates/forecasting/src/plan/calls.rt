@@ -1,10 +1,9 @@
 // Planning lines, and taking firings from a plan.
-ghost use Rattle.std.specs.Prelude.{◌≡◌, ◌+◌, ◌-◌, ◌^◌, ◌<◌, ◌≤◌, [], map, length, is_some, if◌then◌else◌};
+ghost use Rattle.std.specs.Prelude.{◌≡◌, ◌+◌, ◌^◌, ◌<◌, ◌≤◌, [], map, length};
 ghost use Rattle.std.specs.List.{AllByRecursion};
 ghost use Rattle.queue.specs.Order.{inserted, in_order};
 ghost use Rattle.queue.specs.Row.{first, later};
-ghost use Rattle.forecasting.specs.Pending.{pending, pending_order, first_due, after_first};
-ghost use Rattle.forecasting.specs.Plan.{waiting, Calm};
+ghost use Rattle.forecasting.specs.Pending.{pending, pending_order, first_due, after_first, Calm};
 
 use super::Plan;
 use crate::pending::Pending;
@@ -14,32 +13,30 @@ use queue::{Due, Queue};
 
 impl Plan {
     fn new() -> Plan
-        ensures count { result.queue.count ≡ 0 }
-        ensures waiting { waiting result ≡ [] }
+        ensures { result ≡ [] }
     {
-        let none = Pending {
+        let blank = Pending {
             due: Due { moment: 0, slot: 0 },
             kind: Kind::Once,
         };
         Plan {
-            row: [none; 32],
             queue: Queue::new(),
+            row: [blank; 32],
         }
     }
 
     fn put(&mut self, pending: Pending)
-        requires { self.old.queue.count < 32 }
-        ensures count { self.new.queue.count ≡ self.old.queue.count + 1 }
-        ensures waiting { waiting self.new ≡ inserted pending_order pending (waiting self.old) }
+        requires { length self.old < 32 }
+        ensures { self.new ≡ inserted pending_order pending self.old }
     {
         // it is not refused: there is a place for each slot
         let _ = self.queue.add(&mut self.row, pending);
     }
 
     fn take(&mut self) -> Option<Pending>
-        ensures answer { result ≡ first (waiting self.old) }
-        ensures count { self.new.queue.count ≡ (if is_some result then self.old.queue.count - 1 else self.old.queue.count) }
-        ensures waiting { waiting self.new ≡ later (waiting self.old) }
+        ensures answer { result ≡ first self.old }
+        ensures left { self.new ≡ later self.old }
+        ensures few { length self.old ≤ 32 }
     {
         self.queue.take_least(&mut self.row)
     }
@@ -48,7 +45,7 @@ impl Plan {
     pub(crate) fn of(lines: &[Line], start: u64) -> Plan
         requires few { length lines.now ≤ 32 }
         requires early { AllByRecursion (λ l. start + l.delay < 2 ^ 64) lines.now }
-        ensures { waiting result ≡ in_order pending_order (map (pending start) lines.now) }
+        ensures { result ≡ in_order pending_order (map (pending start) lines.now) }
     {
         let mut plan = Plan::new();
         for line in lines {
@@ -59,9 +56,9 @@ impl Plan {
 
     // The next firing, after which its job waits for the one that follows.
     pub(crate) fn next(&mut self) -> Option<Due>
-        requires { AllByRecursion (Calm (2 ^ 63)) (waiting self.old) }
-        ensures answer { result ≡ first_due (waiting self.old) }
-        ensures after { waiting self.new ≡ after_first (waiting self.old) }
+        requires { AllByRecursion (Calm (2 ^ 63)) self.old }
+        ensures answer { result ≡ first_due self.old }
+        ensures after { self.new ≡ after_first self.old }
     {
         let pending = self.take()?;
         if let Some(again) = pending.again() {

@@ -2,4 +2,4 @@ use Rattle.queue.proofs.Queued.{queued_none}
 use Rattle.forecasting.proofs.plan.Plan.new.Goals as goal
 
 pub returns : goal.returns
-returns c = record { count = c.new.ensures; waiting = queued_none c.new.result _ c.new.ensures }
+returns c = queued_none c.new.result _ c.new.ensures

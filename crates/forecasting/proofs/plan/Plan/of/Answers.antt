@@ -1,8 +1,8 @@
-use Rattle.std.proofs.Common.{◌+◌, ◌^◌, ◌<◌, [], map, get_or, take, sym, ap, ◌∙◌, arith}
+use Rattle.std.proofs.Common.{◌+◌, ◌^◌, ◌<◌, length, [], map, get_or, take, sym, ap, ◌∙◌, arith}
 use Rattle.std.proofs.ByRecursion.{All-get_or}
-use Rattle.std.proofs.lemmas.List.{map_more, take_all}
+use Rattle.std.proofs.lemmas.List.{map_more, take_all, length-map, length-take-le}
 use Rattle.queue.specs.Order.{inserted, in_order}
-use Rattle.queue.proofs.Ordered.{added_more}
+use Rattle.queue.proofs.Ordered.{added_more, length_added}
 use Rattle.jobs.specs.declared.Kind.TheVariants.{Once}
 use Rattle.jobs.specs.declared.Action.TheVariants.{Read}
 use Rattle.line.specs.declared.line.Line.{Line}
@@ -16,20 +16,25 @@ blank = record { slot = 0; delay = 0; job = record { kind = Once; action = Read 
 pub of-requires : goal.of-requires
 of-requires c = All-get_or (λ (l : Line). c.args.start + l.delay < 2 ^ 64) c.args.lines.now c.loop-line.line-index _ c.loop-line-test.true c.requires.early
 
+pub put-requires : goal.put-requires
+put-requires c =
+    let xs = c.args.lines.now in
+    let k = c.loop-line.line-index in
+    let so_far = map (pending c.args.start) (take k xs) in
+    omega (arith, ap length c.loop-line.invariant, length_added pending_order [] so_far, length-map (take k xs) (pending c.args.start), length-take-le k xs (omega (arith, c.loop-line-test.true)), c.loop-line-test.true, c.requires.few)
+
 pub loop-line-preserved : goal.loop-line-preserved
 loop-line-preserved c =
     let xs = c.args.lines.now in
     let k = c.loop-line.line-index in
-    let f = pending c.args.start in (
-      omega (arith, c.put.ensures.count, c.loop-line.invariant.0),
-      c.put.ensures.waiting
-          ∙ ap (inserted pending_order c.of.result) c.loop-line.invariant.1
-          ∙ ap (λ p. inserted pending_order p (in_order pending_order (map f (take k xs)))) c.of.ensures
-          ∙ sym (added_more pending_order [] (map f (take k xs)) (f (get_or xs k blank)))
-          ∙ ap (in_order pending_order) (sym (map_more f xs k blank c.loop-line-test.true)),
-    )
+    let f = pending c.args.start in
+    c.put.ensures
+    ∙ ap (inserted pending_order c.of.result) c.loop-line.invariant
+    ∙ ap (λ p. inserted pending_order p (in_order pending_order (map f (take k xs)))) c.of.ensures
+    ∙ sym (added_more pending_order [] (map f (take k xs)) (f (get_or xs k blank)))
+    ∙ ap (in_order pending_order) (sym (map_more f xs k blank c.loop-line-test.true))
 
 pub returns : goal.returns
 returns c =
-    c.loop-line.invariant.1
+    c.loop-line.invariant
     ∙ ap (λ ls. in_order pending_order (map (pending c.args.start) ls)) (take_all c.loop-line.line-index c.args.lines.now c.loop-line-test.false)

@@ -1,12 +1,18 @@
-use Rattle.std.proofs.Common.{◌<◌, cond, length, lt-ltb, ap, ◌∙◌, arith}
+use Rattle.std.proofs.Common.{◌<◌, ◌≤◌, length, ap, ◌∙◌, arith}
+use Rattle.std.proofs.lemmas.Bool.{cond-true, lt-ltb}
 use Rattle.queue.specs.Order.{inserted}
+use Rattle.queue.specs.Queue.{has_place}
+use Rattle.queue.proofs.Queued.{length_queued}
 use Rattle.forecasting.specs.Pending.{pending_order}
-use Rattle.forecasting.specs.Plan.{waiting}
 use Rattle.forecasting.proofs.plan.Plan.put.Goals as goal
 
-pub returns-clause-waiting : goal.returns-clause-waiting
-returns-clause-waiting c =
-    let p = c.args.self.now in
-    let place : p.queue.count < length p.row = omega (arith, p.places) in
+pub returns : goal.returns
+returns c =
+    let p = c.self.inside in
+    let within : p.queue.count ≤ length p.row = omega (arith, c.self.invariant.0, c.self.invariant.1) in
+    let held = length_queued p.queue p.row within in
+    let seen = ap length c.self.view_is in
+    let free : p.queue.count < length p.row = omega (arith, c.self.invariant.0, held, seen, c.requires) in
     c.add.ensures.queued pending_order
-    ∙ ap (λ b. cond b (inserted pending_order c.args.pending (waiting p)) (waiting p)) (lt-ltb p.queue.count (length p.row) place)
+    ∙ cond-true (has_place p.queue p.row) _ _ (lt-ltb p.queue.count (length p.row) free)
+    ∙ ap (inserted pending_order c.args.pending) c.self.view_is
