@@ -4,11 +4,10 @@ use Rattle.std.proofs.ByRecursion.{All-weaker}
 use Rattle.queue.specs.Order.{in_order}
 use Rattle.line.specs.declared.line.Line.{Line}
 use Rattle.line.specs.Text.{Lawful}
-use Rattle.line.proofs.Binds.{bind_ok}
 use Rattle.script.specs.Lines.{lines_of, read_as}
 use Rattle.script.specs.Script.{script_of}
-use Rattle.forecasting.specs.Forecast.{all_free, forecast_of, places, how_many, row_after}
-use Rattle.forecasting.specs.Pending.{pending, pending_order, firings, Calm}
+use Rattle.forecasting.specs.Forecast.{all_free}
+use Rattle.forecasting.specs.Pending.{pending, pending_order, Calm}
 use Rattle.forecasting.proofs.Foretold.{line_delay, calm_lines, forecast_law}
 use Rattle.forecasting.proofs.Rows.{all_in_order}
 use Rattle.forecasting.proofs.forecast.Goals as goal
@@ -41,15 +40,5 @@ fill-requires c =
     let W : List _ → Type 0 = λ w. AllByRecursion (Calm (2 ^ 62 + 2 ^ 40)) w in
     subst W (sym (plan_is d)) (all_in_order (Calm (2 ^ 62 + 2 ^ 40)) _ (calm_lines all_free c.args.start.ticks (lines_of loaded) c.args.start.early lawful))
 
-pub returns : goal.returns
-returns c =
-    let d = (goal.at.returns c).After-of-plan in
-    let n = places c.args.moments.now c.args.slots.now in
-    let foretold : forecast_of n c.args.start.ticks c.args.script.now ≡ Ok (firings n c.of-plan.result) =
-    bind_ok _ (read_ok d) ∙ ap (λ w. Ok (firings n w)) (sym (plan_is d)) in
-    record {
-      answer = ap (λ m. Ok m) c.fill.ensures.count ∙ sym (ap how_many foretold);
-      moments = c.fill.ensures.moments ∙ sym (ap (λ r. row_after (λ d. d.moment) r c.args.moments.now) foretold);
-      slots = c.fill.ensures.slots ∙ sym (ap (λ r. row_after (λ d. d.slot) r c.args.slots.now) foretold);
-      law = forecast_law _ c.args.start.ticks c.args.script.now;
-    }
+pub returns-clause-law : goal.returns-clause-law
+returns-clause-law c = forecast_law _ c.args.start.ticks c.args.script.now
