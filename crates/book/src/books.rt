@@ -5,6 +5,7 @@ ghost use Rattle.std.specs.Prelude.{◌≤◌, length};
 mod calls;
 
 // The first `count` places of the row hold records; what lies beyond them is not the book's.
+// Fields and no model, as a model's value cannot hold the name of the lent row, by which its caller follows it.
 #[derive(Drop)]
 pub struct Book<'a, T> {
     row: &'a mut [T],

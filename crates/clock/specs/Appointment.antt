@@ -8,7 +8,7 @@ use Rattle.clock.specs.declared.appointment.Appointment.TheVariants.{Idle, Stand
 use Rattle.clock.specs.declared.appointment.Event.{Event}
 use Rattle.clock.specs.declared.appointment.Event.TheVariants.{Take, Set, Stop, Claim}
 use Rattle.clock.specs.declared.appointment.Reply.{Reply}
-use Rattle.clock.specs.declared.appointment.Reply.TheVariants.{Kept, Refused, Stopped, Claimed}
+use Rattle.clock.specs.declared.appointment.Reply.TheVariants.{Passed, Placed, Stopped, Claimed}
 use Rattle.clock.specs.Wrap.{plus, minus}
 
 -- the number that an appointment holds, ticks or a point, and 0 where it is idle
@@ -86,12 +86,10 @@ after_claim (Standing left) = Standing left
 after_claim (Due point) = Idle
 
 -- the whole table: state and event give the next state and the reply
-abbrev pub set_reply : Appointment → Result Appointment Fault → Appointment × Reply
-set_reply before (Ok a) = (a, Kept)
-set_reply before (Err f) = (before, Refused)
-
 abbrev pub table : Appointment → Event → Appointment × Reply
-table a (Take gain) = (after_take gain.width.bits gain.from gain.gained a, Kept)
-table a (Set request) = set_reply a (set_row request.width.bits request.reading request.reference request.delay a)
+table a (Take gain) = (after_take gain.width.bits gain.from gain.gained a, Passed)
+table a (Set request) =
+    let row = set_row request.width.bits request.reading request.reference request.delay a in
+    (left_by row a, Placed (told row))
 table a Stop = (Idle, Stopped (stops a))
 table a Claim = (after_claim a, Claimed (claims a))

@@ -3,7 +3,10 @@ ghost use Rattle.std.specs.Prelude.{◌≡◌};
 ghost use Rattle.clock.specs.Appointment.{Sound, Possible, after_take, placed, setting, told, left_by, stops, claims, after_claim, table};
 ghost use Rattle.clock.specs.declared.appointment.Appointment.TheVariants.{Idle, Standing};
 ghost use Rattle.clock.specs.declared.appointment.Event.TheVariants.{Take, Set};
+ghost use Rattle.clock.specs.declared.appointment.Reply.TheVariants.{Placed};
+ghost use Rattle.fault.specs.Table.{not_idle};
 
+use crate::alarm::Clock;
 use crate::width::Width;
 use fault::{Cause, Fault};
 
@@ -42,10 +45,28 @@ pub struct Request {
     pub delay: u64,
 }
 
+impl Request {
+    // An appointment is wanted on this clock as it stands.
+    pub fn of<C: Clock>(clock: &C, reference: u64, delay: u64) -> Request
+        ensures width { result.width.bits ≡ (C.Clock.meaning clock.now).width }
+        ensures reading { result.reading ≡ (C.Clock.meaning clock.now).reading }
+        ensures reference { result.reference ≡ reference }
+        ensures delay { result.delay ≡ delay }
+    {
+        Request {
+            width: Width::of(clock),
+            reading: clock.reading(),
+            reference,
+            delay,
+        }
+    }
+}
+
+// What each event answers.
 #[derive(Clone, Copy)]
 pub enum Reply {
-    Kept,
-    Refused,
+    Passed,
+    Placed(Result<(), Fault>),
     // whether there was anything to stop
     Stopped(bool),
     // the point at which it fell due, if it did
@@ -54,23 +75,35 @@ pub enum Reply {
 
 impl Appointment {
     // The table, a cell for each state and event. Deadlines are judged by the ticks left, never by comparing readings.
-    fn respond(self, event: Event) -> (Appointment, Reply)
-        ensures { result ≡ table self event }
+    fn respond(&mut self, event: Event) -> Reply
+        ensures { (self.new, result) ≡ table self.old event }
     {
-        match (self, event) {
-            (Self::Idle, Event::Take(_)) => (Self::Idle, Reply::Kept),
-            (Self::Standing(left), Event::Take(gain)) => (Self::run_down(left, gain), Reply::Kept),
-            (Self::Due(point), Event::Take(_)) => (Self::Due(point), Reply::Kept),
-            (Self::Idle, Event::Set(request)) => (Self::placed(request), Reply::Kept),
-            (Self::Standing(left), Event::Set(_)) => (Self::Standing(left), Reply::Refused),
-            (Self::Due(point), Event::Set(_)) => (Self::Due(point), Reply::Refused),
+        let (next, reply) = match (*self, event) {
+            (Self::Idle, Event::Take(_)) => (Self::Idle, Reply::Passed),
+            (Self::Standing(left), Event::Take(gain)) => (
+                Self::run_down(left, gain),
+                Reply::Passed,
+            ),
+            (Self::Due(point), Event::Take(_)) => (Self::Due(point), Reply::Passed),
+            (Self::Idle, Event::Set(request)) => (Self::placed(request), Reply::Placed(Ok(()))),
+            (Self::Standing(left), Event::Set(_)) => (Self::Standing(left), Self::refused()),
+            (Self::Due(point), Event::Set(_)) => (Self::Due(point), Self::refused()),
             (Self::Idle, Event::Stop) => (Self::Idle, Reply::Stopped(false)),
             (Self::Standing(_), Event::Stop) => (Self::Idle, Reply::Stopped(true)),
             (Self::Due(_), Event::Stop) => (Self::Idle, Reply::Stopped(true)),
             (Self::Idle, Event::Claim) => (Self::Idle, Reply::Claimed(None)),
             (Self::Standing(left), Event::Claim) => (Self::Standing(left), Reply::Claimed(None)),
             (Self::Due(point), Event::Claim) => (Self::Idle, Reply::Claimed(Some(point))),
-        }
+        };
+        *self = next;
+        reply
+    }
+
+    // Only an idle appointment can be set.
+    fn refused() -> Reply
+        ensures { result ≡ Placed (Err not_idle) }
+    {
+        Reply::Placed(Err(Fault::in_alarm(Cause::Taken)))
     }
 
     // A standing appointment falls due where all that was left has passed.
@@ -98,46 +131,25 @@ impl Appointment {
         }
     }
 
-    // The clock gained ticks from this reading on.
-    pub fn take(&mut self, width: Width, from: u64, gained: u64)
-        ensures after { self.new ≡ after_take width.bits from gained self.old }
-        ensures sound { Sound width.bits self.old → Sound width.bits self.new }
+    pub fn take(&mut self, gain: Gain)
+        ensures after { self.new ≡ after_take gain.width.bits gain.from gain.gained self.old }
+        ensures sound { Sound gain.width.bits self.old → Sound gain.width.bits self.new }
     {
-        let gain = Gain {
-            width,
-            from,
-            gained,
-        };
-        let (next, _) = self.respond(Event::Take(gain));
-        *self = next;
+        let _ = self.respond(Event::Take(gain));
     }
 
     // Places an appointment where there is none: the two numbers are judged first.
-    pub fn set(
-        &mut self,
-        width: Width,
-        reading: u64,
-        reference: u64,
-        delay: u64,
-    ) -> Result<(), Fault>
-        ensures answer { result ≡ told (setting width.bits reading reference delay self.old) }
-        ensures after { self.new ≡ left_by (setting width.bits reading reference delay self.old) self.old }
-        ensures sound { Sound width.bits self.old → Sound width.bits self.new }
+    pub fn set(&mut self, request: Request) -> Result<(), Fault>
+        ensures answer { result ≡ told (setting request.width.bits request.reading request.reference request.delay self.old) }
+        ensures after { self.new ≡ left_by (setting request.width.bits request.reading request.reference request.delay self.old) self.old }
+        ensures sound { Sound request.width.bits self.old → Sound request.width.bits self.new }
     {
-        let turn = width.turn();
-        if reference >= turn || delay >= turn {
+        let turn = request.width.turn();
+        if request.reference >= turn || request.delay >= turn {
             return Err(Fault::in_alarm(Cause::OutOfLimits));
         }
-        let request = Request {
-            width,
-            reading,
-            reference,
-            delay,
-        };
-        let (next, reply) = self.respond(Event::Set(request));
-        *self = next;
-        match reply {
-            Reply::Refused => Err(Fault::in_alarm(Cause::Taken)),
+        match self.respond(Event::Set(request)) {
+            Reply::Placed(answer) => answer,
             _ => Ok(()),
         }
     }
@@ -147,9 +159,7 @@ impl Appointment {
         ensures answer { result ≡ stops self.old }
         ensures after { self.new ≡ Idle }
     {
-        let (next, reply) = self.respond(Event::Stop);
-        *self = next;
-        match reply {
+        match self.respond(Event::Stop) {
             Reply::Stopped(was) => was,
             _ => false,
         }
@@ -160,9 +170,7 @@ impl Appointment {
         ensures answer { result ≡ claims self.old }
         ensures after { self.new ≡ after_claim self.old }
     {
-        let (next, reply) = self.respond(Event::Claim);
-        *self = next;
-        match reply {
+        match self.respond(Event::Claim) {
             Reply::Claimed(point) => point,
             _ => None,
         }

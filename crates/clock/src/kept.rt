@@ -2,12 +2,14 @@
 //
 // The type of a layer cannot say how wide the alarm below is, so the width comes with each call, and an appointment that
 // would not fit it counts as none. A layer never keeps such a one: what is kept comes from calls at the same width.
+// Each layer is a type of its own over it, since what it makes of a sample and of a reading is its own; the rest is here.
 ghost use Rattle.std.specs.Prelude.{◌≡◌, ◌^◌, ◌<◌, ◌≤◌};
 ghost use Rattle.clock.specs.Appointment.{Sound, held, left_in, after_take, setting, told, left_by, stops, claims, after_claim};
 ghost use Rattle.clock.specs.Kept.{within};
+ghost use Rattle.std.specs.Fn.{FnOnceReturnsAtMut};
 ghost use Rattle.clock.specs.declared.appointment.Appointment.TheVariants.{Idle};
 
-use crate::appointment::Appointment;
+use crate::appointment::{Appointment, Gain, Request};
 use crate::width::Width;
 use fault::Fault;
 
@@ -40,47 +42,42 @@ impl Kept {
         }
     }
 
-    pub fn take(&mut self, width: Width, from: u64, gained: u64)
-        ensures { within width.bits self.new.appointment ≡ after_take width.bits from gained (within width.bits self.old.appointment) }
+    // Lets a call work on the appointment of a clock of this width.
+    fn with<R, F: FnOnce(&mut Appointment) -> R>(&mut self, width: Width, call: F) -> R
+        requires can { F.IsAlwaysCallable call }
+        requires some { (r : R) (a : Appointment) → FnOnceReturnsAtMut F.FnOnce call (within width.bits self.old.appointment) r a → 1 ≤ left_in a }
+        ensures { FnOnceReturnsAtMut F.FnOnce call (within width.bits self.old.appointment) result self.new.appointment }
     {
         let mut appointment = self.at(width);
-        appointment.take(width, from, gained);
-        self.appointment = appointment;
-    }
-
-    pub fn set(
-        &mut self,
-        width: Width,
-        reading: u64,
-        reference: u64,
-        delay: u64,
-    ) -> Result<(), Fault>
-        ensures answer { result ≡ told (setting width.bits reading reference delay (within width.bits self.old.appointment)) }
-        ensures after { within width.bits self.new.appointment ≡ left_by (setting width.bits reading reference delay (within width.bits self.old.appointment)) (within width.bits self.old.appointment) }
-    {
-        let mut appointment = self.at(width);
-        let answer = appointment.set(width, reading, reference, delay);
+        let answer = call(&mut appointment);
         self.appointment = appointment;
         answer
+    }
+
+    pub fn take(&mut self, gain: Gain)
+        ensures { within gain.width.bits self.new.appointment ≡ after_take gain.width.bits gain.from gain.gained (within gain.width.bits self.old.appointment) }
+    {
+        self.with(gain.width, |appointment| appointment.take(gain));
+    }
+
+    pub fn set(&mut self, request: Request) -> Result<(), Fault>
+        ensures answer { result ≡ told (setting request.width.bits request.reading request.reference request.delay (within request.width.bits self.old.appointment)) }
+        ensures after { within request.width.bits self.new.appointment ≡ left_by (setting request.width.bits request.reading request.reference request.delay (within request.width.bits self.old.appointment)) (within request.width.bits self.old.appointment) }
+    {
+        self.with(request.width, |appointment| appointment.set(request))
     }
 
     pub fn stop(&mut self, width: Width) -> bool
         ensures answer { result ≡ stops (within width.bits self.old.appointment) }
         ensures after { within width.bits self.new.appointment ≡ Idle }
     {
-        let mut appointment = self.at(width);
-        let answer = appointment.stop();
-        self.appointment = appointment;
-        answer
+        self.with(width, Appointment::stop)
     }
 
     pub fn claim(&mut self, width: Width) -> Option<u64>
         ensures answer { result ≡ claims (within width.bits self.old.appointment) }
         ensures after { within width.bits self.new.appointment ≡ after_claim (within width.bits self.old.appointment) }
     {
-        let mut appointment = self.at(width);
-        let answer = appointment.claim();
-        self.appointment = appointment;
-        answer
+        self.with(width, Appointment::claim)
     }
 }

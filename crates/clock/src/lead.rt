@@ -5,8 +5,9 @@
 ghost use Rattle.std.specs.Prelude.{◌≡◌, ◌+◌, ◌^◌, ◌<◌, ◌≤◌};
 ghost use Rattle.clock.specs.Lead.{lead_at, lead_of, turned, Serial};
 
-use crate::width::Width;
+use crate::width::{WIDEST, Width};
 use fault::{Cause, Fault};
+use std::cmp::Ordering;
 
 // The lead of `a` over `b`, readings of `width` bits, 2 to 48: positive where `a` is ahead, negative where `b` is.
 // The other way round it has the other sign, and it is refused for the same reason.
@@ -15,7 +16,7 @@ pub fn lead(width: u32, a: u64, b: u64) -> Result<i64, Fault>
     ensures reverse { turned result ≡ lead_of width b a }
     ensures serial { Serial width a b result }
 {
-    if width < 2 || width > 48 {
+    if !(2..=WIDEST).contains(&width) {
         return Err(Fault::in_lead(Cause::BadSetting));
     }
     let whole = Width { bits: width };
@@ -32,11 +33,9 @@ fn signed(half: u64, distance: u64) -> Result<i64, Fault>
     requires { (half ≤ 2 ^ 47) × (distance < half + half) }
     ensures { result ≡ lead_at half distance }
 {
-    if distance < half {
-        Ok(distance as i64)
-    } else if distance > half {
-        Ok(distance as i64 - (half + half) as i64)
-    } else {
-        Err(Fault::in_lead(Cause::HalfTurn))
+    match distance.cmp(&half) {
+        Ordering::Less => Ok(distance as i64),
+        Ordering::Equal => Err(Fault::in_lead(Cause::HalfTurn)),
+        Ordering::Greater => Ok(distance as i64 - (half + half) as i64),
     }
 }

@@ -1,10 +1,11 @@
 // How long a clock takes to gain a number of ticks: what layers and the logger ask of the alarm below them.
-ghost use Rattle.std.specs.Prelude.{◌≡◌, ◌-◌};
+ghost use Rattle.std.specs.Prelude.{◌≡◌, ℕ, ◌-◌};
 ghost use Rattle.clock.specs.Calls.{SetTo};
-ghost use Rattle.clock.specs.Hold.{wait_for, Waits};
-ghost use Rattle.clock.specs.declared.appointment.Appointment.TheVariants.{Idle};
+ghost use Rattle.clock.specs.Hold.{wait_for, hold_of, HeldOver, Waits};
+ghost use Rattle.clock.specs.declared.appointment.Appointment.TheVariants.{Idle, Standing};
 
-use crate::alarm::Alarm;
+use crate::alarm::{Alarm, Clock};
+use crate::appointment::Appointment;
 use fault::Fault;
 
 // The least number of true ticks, below the reach, in which the clock gains `left` ticks of its own; the reach less one
@@ -43,4 +44,34 @@ fn longest<A: Alarm>(alarm: &A) -> u64
     ensures { result ≡ (A.Clock.meaning alarm.now).reach - 1 }
 {
     alarm.reach() - 1
+}
+
+// The hold of a clock that gains a tick with each true tick.
+pub fn steady_hold<C: Clock>(clock: &C, appointment: Appointment) -> u64
+    requires { (d : ℕ) → (C.Clock.meaning clock.now).measure d ≡ d }
+    ensures { result ≡ hold_of (C.Clock.meaning clock.now) appointment }
+{
+    let longest = clock.reach() - 1;
+    match appointment {
+        Appointment::Idle => longest,
+        Appointment::Standing(left) => left.min(longest),
+        Appointment::Due(_) => 0,
+    }
+}
+
+// The hold of a layer over the alarm below, where `needed` answers how many ticks below bring so many of the layer's own.
+pub fn hold_over<A: Alarm, F: FnOnce(u64) -> u64>(
+    below: &mut A,
+    appointment: Appointment,
+    needed: F,
+) -> u64
+    requires { (left : ℕ) → appointment ≡ Standing left → F.pre needed left }
+    ensures answer { HeldOver (A.Clock.meaning below.old) (λ left n. F.post needed left n) appointment result }
+    ensures clock { A.Clock.meaning below.new ≡ A.Clock.meaning below.old }
+{
+    match appointment {
+        Appointment::Idle => longest(below),
+        Appointment::Standing(left) => ticks_until(below, needed(left)),
+        Appointment::Due(_) => 0,
+    }
 }

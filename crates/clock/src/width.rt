@@ -4,7 +4,9 @@ ghost use Rattle.clock.specs.Wrap.{plus, minus};
 
 use crate::alarm::Clock;
 
-// No reading has more than 48 bits.
+// No reading has more bits.
+pub const WIDEST: u32 = 48;
+
 #[derive(Clone, Copy)]
 pub struct Width {
     pub bits: u32,

@@ -1,19 +1,18 @@
 -- The down-counter keeps the laws of a clock, and moves as a clock moves. Assumes nothing.
-use Rattle.std.specs.Prelude.{◌≡◌, ℕ, ◌+◌, ◌-◌, ◌%◌, ◌^◌, ◌<◌, ◌≤◌, min, List, refl}
+use Rattle.std.specs.Prelude.{◌≡◌, ℕ, ◌+◌, ◌-◌, ◌%◌, ◌^◌, ◌<◌, ◌≤◌, List, refl}
 use Rattle.std.proofs.Common.{sym, ap, ◌∙◌, ⊎_elim, mod-lt, zero-add, arith}
 use Rattle.std.proofs.Math.Nat.{mod-add-mod, add-mod_right}
 use Rattle.std.proofs.lemmas.Bool.{cases_lt, lt-ltb, le-ltb, cond-true, cond-false}
 use Rattle.clock.specs.Wrap.{plus}
-use Rattle.clock.specs.Meaning.{Meaning, Lawful, advanced, total}
+use Rattle.clock.specs.Meaning.{Lawful, advanced, total}
 use Rattle.down.specs.Down.{back, fallen, down_meaning}
-use Rattle.clock.specs.Hold.{wait_for, Least}
 use Rattle.down.specs.declared.down.Count.{Count}
 use Rattle.clock.specs.declared.appointment.Appointment.{Appointment}
 use Rattle.clock.specs.Appointment.{after_take}
 use Rattle.clock.specs.Calls.{Accepted}
 use Rattle.clock.proofs.Wrapping.{add_cancel}
 use Rattle.clock.proofs.Turning.{same_place, there_and_back}
-use Rattle.clock.proofs.Waiting.{wait_least, wait_never}
+use Rattle.clock.proofs.Waiting.{each_tick}
 
 -- n is the length of a round
 module _ (n : ℕ) (some : 0 < n) where
@@ -55,7 +54,7 @@ module _ (reload last reading tag : ℕ) where
     reach_low = omega arith;
     reach_high = omega arith;
     reach_fits = omega arith;
-    counts = record { nought = refl; grows = λ d. omega arith; slow = λ d. omega arith };
+    counts = each_tick;
     apart = λ d e hd he same. back_apart (reload + 1) (omega arith) last d e hd he (at_once d e (ap (λ (x : Count). x.0) same));
   }
     where
@@ -81,24 +80,6 @@ module _ (reload last reading tag : ℕ) where
 
       gains : (x : ℕ) → x ≡ d + x - d
       gains x = omega arith
-
-  -- the wait of a clock that gains each tick is what is left, capped below the reach
-  pub down_wait : (left : ℕ) → min left reload ≡ wait_for (down_meaning reload last reading tag) left
-  down_wait left = ⊎_elim near far (cases_lt left (reload + 1))
-    where
-      m : Meaning Count
-      m = down_meaning reload last reading tag
-
-      near : left < reload + 1 → min left reload ≡ wait_for m left
-      near h =
-          let least : Least m left left = record { within = h; come = omega arith; first = λ d small. small } in
-          let capped : min left reload ≡ left = omega arith in
-          capped ∙ sym (wait_least m left left least)
-
-      far : reload + 1 ≤ left → min left reload ≡ wait_for m left
-      far h =
-          let capped : min left reload ≡ reload + 1 - 1 = omega arith in
-          capped ∙ sym (wait_never m left (λ d small. omega arith))
 
   -- a count that the counter can show was accepted
   pub down_accepted : (now d reading' : ℕ) (a a' : Appointment) → last ≤ reload → now ≤ reload → d ≡ fallen reload last now

@@ -3,13 +3,13 @@ ghost use Rattle.std.specs.Prelude.{◌≡◌, ◌^◌, ◌<◌, ◌≤◌};
 ghost use Rattle.clock.specs.Appointment.{Sound};
 ghost use Rattle.clock.specs.Calls.{Accepted};
 ghost use Rattle.down.specs.Down.{IsCount, down_meaning, down_made, fallen};
-ghost use Rattle.clock.specs.Hold.{wait_for};
 ghost use Rattle.clock.specs.Making.{seen};
 ghost use Rattle.down.specs.DownCounters.{down_lawful};
 ghost use Rattle.std.proofs.Common.{rules, arith};
 
 use clock::alarm::{Alarm, Clock};
-use clock::appointment::Appointment;
+use clock::appointment::{Appointment, Gain, Request};
+use clock::wait::steady_hold;
 use clock::width::Width;
 use fault::{Cause, Fault};
 use std::num::TryFromIntError;
@@ -50,9 +50,9 @@ pub struct DownCounter {
 impl DownCounter {
     // Reload from 1 to 2^24 - 1, and a first sample that a counter with that reload can show.
     pub fn new(reload: u32, first: Count, tag: u8) -> Result<DownCounter, Fault>
-        ensures { seen (λ c. (down_meaning c.reload c.last c.reading c.tag, c.appointment)) result ≡ down_made reload first.0 tag }
+        ensures { seen (λ c. (⟦<DownCounter as Clock>⟧.meaning c, c.appointment)) result ≡ down_made reload first.0 tag }
     {
-        if reload < 1 || reload >= 1 << 24 {
+        if !(1..1 << 24).contains(&reload) {
             return Err(Fault::in_device(Cause::BadSetting, tag));
         }
         if first.0 > reload {
@@ -83,18 +83,15 @@ impl DownCounter {
     // Moves on to a count that the counter can show, this many ticks after the last.
     fn accept(&mut self, sample: Count, gained: u64)
         requires { (sample.0 ≤ self.old.reload) × (gained ≡ fallen self.old.reload self.old.last sample.0) }
-        ensures { Accepted (down_meaning self.old.reload self.old.last self.old.reading self.old.tag) self.old.appointment sample gained (down_meaning self.new.reload self.new.last self.new.reading self.new.tag) self.new.appointment }
+        ensures { Accepted (⟦<DownCounter as Clock>⟧.meaning self.old) self.old.appointment sample gained (⟦<DownCounter as Clock>⟧.meaning self.new) self.new.appointment }
     {
-        self.appointment.take(WIDTH, self.reading, gained);
+        self.appointment.take(Gain {
+            width: WIDTH,
+            from: self.reading,
+            gained,
+        });
         self.reading = WIDTH.sum(self.reading, gained);
         self.last = sample.0;
-    }
-
-    // A tick of this clock is a true tick.
-    fn wait(&self, left: u64) -> u64
-        ensures { result ≡ wait_for (down_meaning self.now.reload self.now.last self.now.reading self.now.tag) left }
-    {
-        left.min(u64::from(self.reload))
     }
 }
 
@@ -133,7 +130,8 @@ impl Alarm for DownCounter {
     }
 
     fn set(&mut self, reference: u64, delay: u64) -> Result<(), Fault> {
-        self.appointment.set(WIDTH, self.reading, reference, delay)
+        let request = Request::of(self, reference, delay);
+        self.appointment.set(request)
     }
 
     fn stop(&mut self) -> bool {
@@ -145,10 +143,6 @@ impl Alarm for DownCounter {
     }
 
     fn hold(&mut self) -> u64 {
-        match self.appointment {
-            Appointment::Idle => u64::from(self.reload),
-            Appointment::Standing(left) => self.wait(left),
-            Appointment::Due(_) => 0,
-        }
+        steady_hold(self, self.appointment)
     }
 }

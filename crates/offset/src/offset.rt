@@ -24,8 +24,8 @@ pub struct Offset<A: Alarm> {
 impl<A: Alarm> Offset<A> {
     // An idle layer: an appointment that stood below is given up.
     pub fn new(mut below: A, shift: Shift) -> Offset<A>
-        ensures clock { offset_meaning (A.Clock.meaning result.below) result.shift.by ≡ offset_meaning (A.Clock.meaning below) shift.by }
-        ensures appointment { shifted (A.Clock.meaning result.below).width result.shift.by (A.Alarm.appointment result.below) ≡ Idle }
+        ensures clock { ⟦<Offset<A> as Clock>⟧.meaning result ≡ offset_meaning (A.Clock.meaning below) shift.by }
+        ensures appointment { ⟦<Offset<A> as Alarm>⟧.appointment result ≡ Idle }
     {
         let _ = below.stop();
         Offset { below, shift }
@@ -33,15 +33,14 @@ impl<A: Alarm> Offset<A> {
 
     // A reading of the alarm below as this clock has it.
     fn forward(&self, reading: u64) -> u64
-        requires { reading < 2 ^ 48 }
         ensures { result ≡ plus (A.Clock.meaning self.now.below).width reading self.now.shift.by }
     {
-        (reading + self.shift.by) % Width::of(&self.below).turn()
+        Width::of(&self.below).sum(reading, self.shift.by)
     }
 
     // What the alarm below makes of a sample, this one makes of it.
     fn pass_on(&mut self, sample: A::Sample) -> Result<u64, Fault>
-        ensures { Taken (offset_meaning (A.Clock.meaning self.old.below) self.old.shift.by) (shifted (A.Clock.meaning self.old.below).width self.old.shift.by (A.Alarm.appointment self.old.below)) sample result (offset_meaning (A.Clock.meaning self.new.below) self.new.shift.by) (shifted (A.Clock.meaning self.new.below).width self.new.shift.by (A.Alarm.appointment self.new.below)) }
+        ensures { Taken (⟦<Offset<A> as Clock>⟧.meaning self.old) (⟦<Offset<A> as Alarm>⟧.appointment self.old) sample result (⟦<Offset<A> as Clock>⟧.meaning self.new) (⟦<Offset<A> as Alarm>⟧.appointment self.new) }
     {
         self.below.take(sample)
     }
@@ -49,7 +48,7 @@ impl<A: Alarm> Offset<A> {
     // Hands an appointment down, with its reference turned back.
     fn place(&mut self, reference: u64, delay: u64) -> Result<(), Fault>
         requires { reference < 2 ^ (A.Clock.meaning self.old.below).width }
-        ensures { SetTo (offset_meaning (A.Clock.meaning self.old.below) self.old.shift.by) (shifted (A.Clock.meaning self.old.below).width self.old.shift.by (A.Alarm.appointment self.old.below)) reference delay result (offset_meaning (A.Clock.meaning self.new.below) self.new.shift.by) (shifted (A.Clock.meaning self.new.below).width self.new.shift.by (A.Alarm.appointment self.new.below)) }
+        ensures { SetTo (⟦<Offset<A> as Clock>⟧.meaning self.old) (⟦<Offset<A> as Alarm>⟧.appointment self.old) reference delay result (⟦<Offset<A> as Clock>⟧.meaning self.new) (⟦<Offset<A> as Alarm>⟧.appointment self.new) }
     {
         let width = Width::of(&self.below);
         let back = width.difference(reference, self.shift.by % width.turn());
@@ -100,6 +99,7 @@ impl<A: Alarm> Alarm for Offset<A> {
     }
 
     fn claim(&mut self) -> Option<u64> {
+        // Taken apart: a point below is set forward, and none stays none.
         match self.below.claim() {
             Some(point) => Some(self.forward(point)),
             None => None,

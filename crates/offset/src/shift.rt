@@ -3,6 +3,7 @@ ghost use Rattle.std.specs.Prelude.{◌≡◌, ◌^◌, ◌<◌};
 ghost use Rattle.clock.specs.Making.{seen};
 ghost use Rattle.offset.specs.Shift.{shift_made};
 
+use clock::width::WIDEST;
 use fault::{Cause, Fault};
 
 // How far a reading is set forward.
@@ -17,7 +18,7 @@ impl Shift {
     pub fn new(by: u64) -> Result<Shift, Fault>
         ensures { seen (λ s. s.by) result ≡ shift_made by }
     {
-        if by >= 1 << 48 {
+        if by >= 1 << WIDEST {
             return Err(Fault::in_alarm(Cause::BadSetting));
         }
         Ok(Shift { by })

@@ -1,7 +1,6 @@
 -- Lemmas that several proofs share.
 pub mod Drained
 pub mod DueOrder
-pub mod Moves
 pub mod Ordered
 pub mod Placed
 pub mod Queued

@@ -3,8 +3,6 @@
 // What is left of each division is carried on, so that the gain over many takes is that of one take. Two rates, one above
 // the other, round twice: they are not the one rate with their product.
 ghost use Rattle.std.specs.Prelude.{◌≡◌, ◌+◌, ◌*◌, ◌/◌, ◌%◌, ◌^◌, ◌<◌, ◌≤◌};
-ghost use Rattle.clock.specs.Appointment.{after_take};
-ghost use Rattle.clock.specs.Hold.{wait_for};
 ghost use Rattle.clock.specs.Kept.{within};
 ghost use Rattle.rate.specs.Rate.{rate_meaning};
 ghost use Rattle.clock.specs.declared.appointment.Appointment.TheVariants.{Idle};
@@ -13,9 +11,9 @@ ghost use Rattle.std.proofs.Common.{rules, arith};
 
 use crate::ratio::Ratio;
 use clock::alarm::{Alarm, Clock};
-use clock::appointment::Appointment;
+use clock::appointment::{Gain, Request};
 use clock::kept::Kept;
-use clock::wait::ticks_until;
+use clock::wait::hold_over;
 use clock::width::Width;
 use fault::Fault;
 
@@ -34,8 +32,8 @@ pub struct Rate<A: Alarm> {
 impl<A: Alarm> Rate<A> {
     // An idle layer with the reading 0 and no remainder.
     pub fn new(below: A, ratio: Ratio) -> Rate<A>
-        ensures clock { rate_meaning (A.Clock.meaning result.below) result.ratio.gains result.ratio.ticks result.remainder result.count ≡ rate_meaning (A.Clock.meaning below) ratio.gains ratio.ticks 0 0 }
-        ensures appointment { within (A.Clock.meaning result.below).width result.kept.appointment ≡ Idle }
+        ensures clock { ⟦<Rate<A> as Clock>⟧.meaning result ≡ rate_meaning (A.Clock.meaning below) ratio.gains ratio.ticks 0 0 }
+        ensures appointment { ⟦<Rate<A> as Alarm>⟧.appointment result ≡ Idle }
     {
         Rate {
             below,
@@ -46,42 +44,21 @@ impl<A: Alarm> Rate<A> {
         }
     }
 
-    // What ticks below bring, with what was left over, in parts of a tick.
-    fn parts(&self, ticks: u64) -> u64
-        requires { ticks < 2 ^ 32 }
-        ensures { result ≡ self.now.remainder + self.now.ratio.gains * ticks }
-    {
-        self.remainder + self.ratio.gains * ticks
-    }
-
-    // Moves the layer's own parts on by ticks below; answers the ticks of its own.
-    fn follow(&mut self, width: Width, from: u64, ticks: u64) -> u64
+    // Counts what ticks below bring; answers the ticks of its own.
+    fn follow(&mut self, ticks: u64) -> u64
         requires { ticks < 2 ^ 32 }
         ensures gained { result ≡ (self.old.remainder + self.old.ratio.gains * ticks) / self.old.ratio.ticks }
         ensures below { self.new.below ≡ self.old.below }
         ensures ratio { self.new.ratio ≡ self.old.ratio }
         ensures remainder { self.new.remainder ≡ (self.old.remainder + self.old.ratio.gains * ticks) % self.old.ratio.ticks }
         ensures count { self.new.count ≡ (self.old.count + result) % 2 ^ 64 }
-        ensures kept { within width.bits self.new.kept.appointment ≡ after_take width.bits from result (within width.bits self.old.kept.appointment) }
+        ensures kept { self.new.kept ≡ self.old.kept }
     {
-        let parts = self.parts(ticks);
+        let parts = self.ratio.brought(self.remainder, ticks);
         let gained = parts / self.ratio.ticks;
         self.remainder = parts % self.ratio.ticks;
         self.count = self.count.wrapping_add(gained);
-        self.kept.take(width, from, gained);
         gained
-    }
-
-    // How long this clock takes to gain what is left: as long as the one below takes to bring the parts that are missing.
-    fn wait(&mut self, left: u64) -> u64
-        requires { (1 ≤ left) × (left ≤ 2 ^ 48) }
-        ensures answer { result ≡ wait_for (rate_meaning (A.Clock.meaning self.old.below) self.old.ratio.gains self.old.ratio.ticks self.old.remainder self.old.count) left }
-        ensures clock { rate_meaning (A.Clock.meaning self.new.below) self.new.ratio.gains self.new.ratio.ticks self.new.remainder self.new.count ≡ rate_meaning (A.Clock.meaning self.old.below) self.old.ratio.gains self.old.ratio.ticks self.old.remainder self.old.count }
-        ensures kept { self.new.kept.appointment ≡ self.old.kept.appointment }
-    {
-        let parts = self.ratio.ticks * left - self.remainder;
-        let needed = parts.div_ceil(self.ratio.gains);
-        ticks_until(&mut self.below, needed)
     }
 }
 
@@ -113,35 +90,41 @@ impl<A: Alarm> Alarm for Rate<A> {
     ghost sound = { first_of (Prim.search rules, Prim.grind (arith, Self.row.coded.inj)) };
 
     fn take(&mut self, sample: A::Sample) -> Result<u64, Fault> {
-        let width = Width::of(&self.below);
+        let width = Width::of(self);
         let from = self.reading();
         let ticks = self.below.take(sample)?;
-        let gained = self.follow(width, from, ticks);
+        let gained = self.follow(ticks);
+        self.kept.take(Gain {
+            width,
+            from,
+            gained,
+        });
         Ok(gained)
     }
 
     fn set(&mut self, reference: u64, delay: u64) -> Result<(), Fault> {
-        let width = Width::of(&self.below);
-        let reading = self.reading();
-        self.kept.set(width, reading, reference, delay)
+        let request = Request::of(self, reference, delay);
+        self.kept.set(request)
     }
 
     fn stop(&mut self) -> bool {
-        let width = Width::of(&self.below);
+        let width = Width::of(self);
         self.kept.stop(width)
     }
 
     fn claim(&mut self) -> Option<u64> {
-        let width = Width::of(&self.below);
+        let width = Width::of(self);
         self.kept.claim(width)
     }
 
     fn hold(&mut self) -> u64 {
-        let width = Width::of(&self.below);
-        match self.kept.at(width) {
-            Appointment::Idle => self.below.reach() - 1,
-            Appointment::Standing(left) => self.wait(left),
-            Appointment::Due(_) => 0,
-        }
+        let appointment = self.kept.at(Width::of(self));
+        let ratio = self.ratio;
+        let remainder = self.remainder;
+        hold_over(
+            &mut self.below,
+            appointment,
+            |left| ratio.needed(remainder, left),
+        )
     }
 }

@@ -1,7 +1,8 @@
 // What the layer is made with. Its limits are judged here, so that the making of a layer cannot be refused.
-ghost use Rattle.std.specs.Prelude.{◌≡◌, ◌≤◌};
+ghost use Rattle.std.specs.Prelude.{◌≡◌, ◌+◌, ◌*◌, ◌^◌, ◌<◌, ◌≤◌};
 ghost use Rattle.clock.specs.Making.{seen};
 ghost use Rattle.rate.specs.Ratio.{ratio_made};
+ghost use Rattle.rate.specs.Rate.{needed};
 
 use fault::{Cause, Fault};
 
@@ -20,9 +21,25 @@ impl Ratio {
     pub fn new(gains: u64, ticks: u64) -> Result<Ratio, Fault>
         ensures { seen (λ q. (q.gains, q.ticks)) result ≡ ratio_made gains ticks }
     {
-        if gains < 1 || gains > ticks || ticks > 4096 {
+        if !(1..=ticks).contains(&gains) || ticks > 4096 {
             return Err(Fault::in_alarm(Cause::BadSetting));
         }
         Ok(Ratio { gains, ticks })
+    }
+
+    // What ticks of the clock below bring, with what was left over, in parts of a tick.
+    pub(crate) fn brought(self, remainder: u64, ticks: u64) -> u64
+        requires { (remainder < self.ticks) × (ticks < 2 ^ 32) }
+        ensures { result ≡ remainder + self.gains * ticks }
+    {
+        remainder + self.gains * ticks
+    }
+
+    // How many ticks of the clock below bring what is left: as many as bring the parts that are missing.
+    pub(crate) fn needed(self, remainder: u64, left: u64) -> u64
+        requires { (remainder < self.ticks) × (1 ≤ left) × (left ≤ 2 ^ 48) }
+        ensures { result ≡ needed self.gains self.ticks remainder left }
+    {
+        (self.ticks * left - remainder).div_ceil(self.gains)
     }
 }

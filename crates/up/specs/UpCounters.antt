@@ -1,22 +1,16 @@
 -- The up-counter keeps the laws of a clock, and moves as a clock moves. Assumes nothing.
-use Rattle.std.specs.Prelude.{◌≡◌, ℕ, ◌+◌, ◌-◌, ◌%◌, ◌^◌, ◌<◌, ◌≤◌, min, List, refl}
-use Rattle.std.proofs.Common.{sym, ap, ◌∙◌, ⊎_elim, mod-lt, zero-add, arith, pow_pos, pow_mono}
+use Rattle.std.specs.Prelude.{◌≡◌, ℕ, ◌+◌, ◌-◌, ◌%◌, ◌^◌, ◌<◌, ◌≤◌, List}
+use Rattle.std.proofs.Common.{sym, ap, ◌∙◌, mod-lt, zero-add, arith, pow_pos, pow_mono}
 use Rattle.std.proofs.Math.Nat.{mod-add-mod}
 use Rattle.clock.specs.Wrap.{plus, minus}
-use Rattle.clock.specs.Meaning.{Counts, Lawful, advanced, total}
+use Rattle.clock.specs.Meaning.{Lawful, advanced, total}
 use Rattle.up.specs.Up.{up_meaning}
-use Rattle.clock.specs.Hold.{wait_for, Least}
 use Rattle.up.specs.declared.up.Word.{Word}
 use Rattle.clock.specs.declared.appointment.Appointment.{Appointment}
 use Rattle.clock.specs.Appointment.{after_take}
 use Rattle.clock.specs.Calls.{Accepted}
-use Rattle.std.proofs.lemmas.Bool.{cases_lt}
 use Rattle.clock.proofs.Wrapping.{add_cancel, there}
-use Rattle.clock.proofs.Waiting.{wait_least, wait_never}
-
--- one tick for each true tick
-pub each_tick : Counts (λ d. d)
-each_tick = record { nought = refl; grows = λ d. omega arith; slow = λ d. omega arith }
+use Rattle.clock.proofs.Waiting.{each_tick}
 
 module _ (w reading tag : ℕ) (wide : 8 ≤ w) (narrow : w ≤ 32) (fits : reading < 2 ^ w) where
   at_once : (d e : ℕ) → plus w reading (0 + d) ≡ plus w reading (0 + e) → plus w reading d ≡ plus w reading e
@@ -51,22 +45,6 @@ up_advanced w reading tag d = λ i. record {
 
     gains : (x : ℕ) → x ≡ d + x - d
     gains x = omega arith
-
--- the wait of a clock that gains each tick is what is left, capped at the reach
-pub up_wait : (w reading tag left : ℕ) → min left (2 ^ w - 1) ≡ wait_for (up_meaning w reading tag) left
-up_wait w reading tag left = ⊎_elim near far (cases_lt left (2 ^ w))
-  where
-    near : left < 2 ^ w → min left (2 ^ w - 1) ≡ wait_for (up_meaning w reading tag) left
-    near h =
-        let least : Least (up_meaning w reading tag) left left =
-        record { within = h; come = omega arith; first = λ d small. small } in
-        let capped : min left (2 ^ w - 1) ≡ left = omega arith in
-        capped ∙ sym (wait_least (up_meaning w reading tag) left left least)
-
-    far : 2 ^ w ≤ left → min left (2 ^ w - 1) ≡ wait_for (up_meaning w reading tag) left
-    far h =
-        let capped : min left (2 ^ w - 1) ≡ 2 ^ w - 1 = omega arith in
-        capped ∙ sym (wait_never (up_meaning w reading tag) left (λ d small. omega arith))
 
 -- a sample that the counter can show was accepted
 pub up_accepted : (w reading tag sample gained : ℕ) (a a' : Appointment) → reading < 2 ^ w → sample < 2 ^ w

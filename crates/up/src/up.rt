@@ -2,7 +2,6 @@
 ghost use Rattle.std.specs.Prelude.{◌≡◌, ◌^◌, ◌<◌, ◌≤◌};
 ghost use Rattle.clock.specs.Appointment.{Sound};
 ghost use Rattle.clock.specs.Calls.{Accepted};
-ghost use Rattle.clock.specs.Hold.{wait_for};
 ghost use Rattle.clock.specs.Making.{seen};
 ghost use Rattle.clock.specs.Wrap.{minus};
 ghost use Rattle.up.specs.Up.{IsWord, up_meaning, up_made};
@@ -10,7 +9,8 @@ ghost use Rattle.up.specs.UpCounters.{up_lawful};
 ghost use Rattle.std.proofs.Common.{rules, arith};
 
 use clock::alarm::{Alarm, Clock};
-use clock::appointment::Appointment;
+use clock::appointment::{Appointment, Gain, Request};
+use clock::wait::steady_hold;
 use clock::width::Width;
 use fault::{Cause, Fault};
 use std::num::TryFromIntError;
@@ -46,9 +46,9 @@ pub struct UpCounter {
 impl UpCounter {
     // A counter of so many bits, 8 to 32, that shows `first` now.
     pub fn new(bits: u32, first: Word, tag: u8) -> Result<UpCounter, Fault>
-        ensures { seen (λ c. (up_meaning c.width.bits c.last c.tag, c.appointment)) result ≡ up_made bits first.0 tag }
+        ensures { seen (λ c. (⟦<UpCounter as Clock>⟧.meaning c, c.appointment)) result ≡ up_made bits first.0 tag }
     {
-        if bits < 8 || bits > 32 {
+        if !(8..=32).contains(&bits) {
             return Err(Fault::in_device(Cause::BadSetting, tag));
         }
         let width = Width { bits };
@@ -62,24 +62,18 @@ impl UpCounter {
             appointment: Appointment::Idle,
         })
     }
-}
 
-impl UpCounter {
     // Moves on to a sample that the counter can show, this many ticks after the last.
     fn accept(&mut self, sample: Word, gained: u64)
         requires { (sample.0 < 2 ^ self.old.width.bits) × (gained ≡ minus self.old.width.bits sample.0 self.old.last) }
-        ensures { Accepted (up_meaning self.old.width.bits self.old.last self.old.tag) self.old.appointment sample gained (up_meaning self.new.width.bits self.new.last self.new.tag) self.new.appointment }
+        ensures { Accepted (⟦<UpCounter as Clock>⟧.meaning self.old) self.old.appointment sample gained (⟦<UpCounter as Clock>⟧.meaning self.new) self.new.appointment }
     {
-        let from = u64::from(self.last);
+        self.appointment.take(Gain {
+            width: self.width,
+            from: u64::from(self.last),
+            gained,
+        });
         self.last = sample.0;
-        self.appointment.take(self.width, from, gained);
-    }
-
-    // A tick of this clock is a true tick.
-    fn wait(&self, left: u64) -> u64
-        ensures { result ≡ wait_for (up_meaning self.now.width.bits self.now.last self.now.tag) left }
-    {
-        left.min(self.width.turn() - 1)
     }
 }
 
@@ -119,8 +113,8 @@ impl Alarm for UpCounter {
     }
 
     fn set(&mut self, reference: u64, delay: u64) -> Result<(), Fault> {
-        self.appointment
-            .set(self.width, u64::from(self.last), reference, delay)
+        let request = Request::of(self, reference, delay);
+        self.appointment.set(request)
     }
 
     fn stop(&mut self) -> bool {
@@ -132,10 +126,6 @@ impl Alarm for UpCounter {
     }
 
     fn hold(&mut self) -> u64 {
-        match self.appointment {
-            Appointment::Idle => self.width.turn() - 1,
-            Appointment::Standing(left) => self.wait(left),
-            Appointment::Due(_) => 0,
-        }
+        steady_hold(self, self.appointment)
     }
 }

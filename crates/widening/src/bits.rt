@@ -18,7 +18,7 @@ impl Bits {
     pub fn new(count: u32) -> Result<Bits, Fault>
         ensures { seen (λ b. b.count) result ≡ bits_made count }
     {
-        if count < 1 || count > 32 {
+        if !(1..=32).contains(&count) {
             return Err(Fault::in_alarm(Cause::BadSetting));
         }
         Ok(Bits { count })

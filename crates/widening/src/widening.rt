@@ -1,6 +1,5 @@
 // A layer that widens the reading of the alarm below: further bits count how often it has wrapped.
 ghost use Rattle.std.specs.Prelude.{◌≡◌, ◌+◌, ◌*◌, ◌%◌, ◌^◌, ◌<◌, ◌≤◌};
-ghost use Rattle.clock.specs.Appointment.{after_take};
 ghost use Rattle.clock.specs.Kept.{within};
 ghost use Rattle.widening.specs.Widening.{widened_width, widening_meaning, carry_after};
 ghost use Rattle.clock.specs.declared.appointment.Appointment.TheVariants.{Idle};
@@ -9,14 +8,11 @@ ghost use Rattle.std.proofs.Common.{rules, arith};
 
 use crate::bits::Bits;
 use clock::alarm::{Alarm, Clock};
-use clock::appointment::Appointment;
+use clock::appointment::{Gain, Request};
 use clock::kept::Kept;
-use clock::wait::ticks_until;
-use clock::width::Width;
+use clock::wait::hold_over;
+use clock::width::{WIDEST, Width};
 use fault::Fault;
-
-// No reading is wider.
-const WIDEST: u32 = 48;
 
 #[derive(Drop)]
 pub struct Widening<A: Alarm> {
@@ -31,8 +27,8 @@ pub struct Widening<A: Alarm> {
 impl<A: Alarm> Widening<A> {
     // An idle layer with no wrap counted yet.
     pub fn new(below: A, bits: Bits) -> Widening<A>
-        ensures clock { widening_meaning (A.Clock.meaning result.below) result.bits.count result.carry ≡ widening_meaning (A.Clock.meaning below) bits.count 0 }
-        ensures appointment { within (widened_width (A.Clock.meaning result.below).width result.bits.count) result.kept.appointment ≡ Idle }
+        ensures clock { ⟦<Widening<A> as Clock>⟧.meaning result ≡ widening_meaning (A.Clock.meaning below) bits.count 0 }
+        ensures appointment { ⟦<Widening<A> as Alarm>⟧.appointment result ≡ Idle }
     {
         Widening {
             below,
@@ -42,25 +38,16 @@ impl<A: Alarm> Widening<A> {
         }
     }
 
-    fn wide(&self) -> Width
-        ensures { result.bits ≡ widened_width (A.Clock.meaning self.now.below).width self.now.bits.count }
-    {
-        Width {
-            bits: WIDEST.min(self.below.width() + self.bits.count),
-        }
-    }
-
-    // Moves the layer's own parts on by a take below.
-    fn follow(&mut self, width: Width, from: u64, wrapped: bool, gained: u64)
+    // Counts a wrap of the reading below, if there was one.
+    fn follow(&mut self, wrapped: bool)
         ensures below { self.new.below ≡ self.old.below }
         ensures bits { self.new.bits.count ≡ self.old.bits.count }
         ensures carry { self.new.carry ≡ carry_after self.old.bits.count self.old.carry wrapped }
-        ensures kept { within width.bits self.new.kept.appointment ≡ after_take width.bits from gained (within width.bits self.old.kept.appointment) }
+        ensures kept { self.new.kept ≡ self.old.kept }
     {
         if wrapped {
             self.carry = (self.carry + 1) % (1 << self.bits.count);
         }
-        self.kept.take(width, from, gained);
     }
 }
 
@@ -83,7 +70,7 @@ impl<A: Alarm> Clock for Widening<A> {
     ghost lawful = { λ x. widening_lawful (A.Clock.meaning x.below) (A.Clock.lawful x.below) x.bits.count x.carry };
 
     fn width(&self) -> u32 {
-        self.wide().bits
+        WIDEST.min(self.below.width() + self.bits.count)
     }
 
     fn reach(&self) -> u64 {
@@ -91,8 +78,9 @@ impl<A: Alarm> Clock for Widening<A> {
     }
 
     fn reading(&self) -> u64 {
+        let width = Width { bits: self.width() };
         joined(
-            self.wide(),
+            width,
             Width::of(&self.below),
             self.carry,
             self.below.reading(),
@@ -106,39 +94,40 @@ impl<A: Alarm> Alarm for Widening<A> {
     ghost sound = { first_of (Prim.search rules, Prim.grind (arith, Self.row.coded.inj)) };
 
     fn take(&mut self, sample: A::Sample) -> Result<u64, Fault> {
-        let width = self.wide();
+        let width = Width::of(self);
         let from = self.reading();
         let turn = Width::of(&self.below).turn();
         let low = self.below.reading();
         let gained = self.below.take(sample)?;
         // fewer ticks than a turn, so the reading below wraps once at most
         let wrapped = low + gained >= turn;
-        self.follow(width, from, wrapped, gained);
+        self.follow(wrapped);
+        self.kept.take(Gain {
+            width,
+            from,
+            gained,
+        });
         Ok(gained)
     }
 
     fn set(&mut self, reference: u64, delay: u64) -> Result<(), Fault> {
-        let width = self.wide();
-        let reading = self.reading();
-        self.kept.set(width, reading, reference, delay)
+        let request = Request::of(self, reference, delay);
+        self.kept.set(request)
     }
 
     fn stop(&mut self) -> bool {
-        let width = self.wide();
+        let width = Width::of(self);
         self.kept.stop(width)
     }
 
     fn claim(&mut self) -> Option<u64> {
-        let width = self.wide();
+        let width = Width::of(self);
         self.kept.claim(width)
     }
 
     fn hold(&mut self) -> u64 {
-        let width = self.wide();
-        match self.kept.at(width) {
-            Appointment::Idle => self.below.reach() - 1,
-            Appointment::Standing(left) => ticks_until(&mut self.below, left),
-            Appointment::Due(_) => 0,
-        }
+        let appointment = self.kept.at(Width::of(self));
+        // a tick of this clock is one of the clock below
+        hold_over(&mut self.below, appointment, |left| left)
     }
 }

@@ -1,16 +1,10 @@
 // The calls of a book.
-ghost use Rattle.std.specs.Prelude.{◌≡◌, ◌+◌, ◌<◌, [], length, nat_le, slice_set};
+ghost use Rattle.std.specs.Prelude.{◌≡◌, [], length, nat_le, slice_set};
 ghost use Rattle.std.specs.List.{slice_get};
 ghost use Rattle.book.specs.Book.{kept, places, filled, add_answer, kept_after, filled_after};
 
 use super::Book;
 use fault::{Cause, Fault};
-
-fn at<T: Copy>(records: &[T], i: usize) -> Option<T>
-    ensures { result ≡ slice_get records.now i }
-{
-    records.get(i).copied()
-}
 
 impl<'a, T: Copy> Book<'a, T> {
     // A book with no record, over any row.
@@ -40,31 +34,20 @@ impl<'a, T: Copy> Book<'a, T> {
     pub fn records(&self) -> &[T]
         ensures { result.now ≡ kept self.now }
     {
-        &self.row[0..self.count]
+        &self.row[..self.count]
     }
 
     // The record at place `i`, from 0; none from the count on.
     pub fn entry(&self, i: usize) -> Option<T>
         ensures { result ≡ slice_get (kept self.now) i }
     {
-        at(self.records(), i)
+        self.records().get(i).copied()
     }
 
     fn is_full(&self) -> bool
         ensures { result ≡ nat_le (length (places self.now)) (filled self.now) }
     {
         self.count >= self.capacity()
-    }
-
-    // Writes the record into the first free place.
-    fn put(&mut self, record: T)
-        requires { filled self.old < length (places self.old) }
-        ensures count { filled self.new ≡ filled self.old + 1 }
-        ensures places { places self.new ≡ slice_set (places self.old) (filled self.old) «record» }
-        ensures lender { self.new.row.ghost_name ≡ self.old.row.ghost_name }
-    {
-        self.row[self.count] = record;
-        self.count += 1;
     }
 
     // Puts the record after those already there; refused exactly when the row is full.
@@ -78,7 +61,8 @@ impl<'a, T: Copy> Book<'a, T> {
         if self.is_full() {
             return Err(Fault::in_book(Cause::NoPlace, self.capacity()));
         }
-        self.put(record);
+        self.row[self.count] = record;
+        self.count += 1;
         Ok(())
     }
 }

@@ -1,7 +1,7 @@
-use Rattle.std.proofs.Common.{◌≡◌, ℕ, ◌+◌, ◌-◌, ◌^◌, ◌<◌, ◌≤◌, sym, ap, ◌∙◌, subst, mod-lt, arith, pow_pos, pow_mono}
+use Rattle.std.proofs.Common.{rules, ◌≡◌, ℕ, ◌+◌, ◌-◌, ◌^◌, ◌<◌, ◌≤◌, sym, ap, ◌∙◌, subst, mod-lt, arith, pow_pos, pow_mono}
 use Rattle.clock.specs.Wrap.{minus}
-use Rattle.clock.specs.Lead.{lead_at, lead_of, turned, Serial}
-use Rattle.clock.proofs.Leading.{two_halves, lead_inside, lead_turned, lead_serial}
+use Rattle.clock.specs.Lead.{lead_of, turned, Serial}
+use Rattle.clock.proofs.Leading.{two_halves, lead_turned, lead_serial}
 use Rattle.clock.proofs.lead.lead.Goals as goal
 
 half_fits : (w half : ℕ) → w ≤ 48 → half ≡ 2 ^ (w - 1) → half ≤ 2 ^ 47
@@ -14,24 +14,19 @@ less_than_turn : (w a b half d : ℕ) → 2 ≤ w → half ≡ 2 ^ (w - 1) → d
 less_than_turn w a b half d low is from = omega (arith, mod-lt (a + (2 ^ w - b)) (pow_pos w), two_halves w (omega arith))
 
 pub signed-requires : goal.signed-requires
-signed-requires c = (
-  half_fits c.args.width c.turn.result c.if-width-gt48.false c.turn.ensures,
-  less_than_turn c.args.width c.args.a c.args.b c.turn.result c.difference.result c.if-width-lt2.false c.turn.ensures c.difference.ensures,
-)
+signed-requires c =
+    let low : 2 ≤ c.args.width = search rules in
+    let high : c.args.width ≤ 48 = search rules in (
+      half_fits c.args.width c.turn.result high c.turn.ensures,
+      less_than_turn c.args.width c.args.a c.args.b c.turn.result c.difference.result low c.turn.ensures c.difference.ensures,
+    )
 
-pub returns : goal.returns
-returns c =
-    let w = c.args.width in
-    let a = c.args.a in
-    let b = c.args.b in
-    let turn : c.turn-turn.result ≡ 2 ^ w = c.turn-turn.ensures in
-    let ha : a < 2 ^ w = omega (arith, c.if-a-turn.false) in
-    let hb : b < 2 ^ w = omega (arith, c.if-b-turn.false) in
-    let is : c.signed.result ≡ lead_of w a b =
-    c.signed.ensures ∙ (λ i. lead_at (c.turn.ensures i) (c.difference.ensures i))
-    ∙ sym (lead_inside w a b c.if-width-lt2.false c.if-width-gt48.false ha hb) in
-    record {
-      answer = is;
-      reverse = ap turned is ∙ lead_turned w a b;
-      serial = subst (Serial w a b) (sym is) (lead_serial w a b);
-    }
+pub returns-clause-reverse : goal.returns-clause-reverse
+returns-clause-reverse c =
+    let is : c.signed.result ≡ lead_of c.args.width c.args.a c.args.b = search rules in
+    ap turned is ∙ lead_turned c.args.width c.args.a c.args.b
+
+pub returns-clause-serial : goal.returns-clause-serial
+returns-clause-serial c =
+    let is : c.signed.result ≡ lead_of c.args.width c.args.a c.args.b = search rules in
+    subst (Serial c.args.width c.args.a c.args.b) (sym is) (lead_serial c.args.width c.args.a c.args.b)

@@ -2,6 +2,9 @@ use Rattle.std.proofs.Common.{◌≡◌, ℕ, ◌^◌, ◌<◌, sym, ap, subst, 
 use Rattle.clock.specs.Meaning.{Meaning, Lawful}
 use Rattle.rate.specs.declared.ratio.Ratio.{Ratio}
 use Rattle.clock.specs.Calls.{Accepted}
+use Rattle.clock.specs.Appointment.{after_take}
+use Rattle.clock.specs.Kept.{within}
+use Rattle.clock.specs.declared.kept.Kept.{Kept}
 use Rattle.clock.proofs.Keeping.{gains_less}
 use Rattle.rate.specs.Rated.{rate_accepted}
 use Rattle.rate.proofs.rate.RateAlarm.take.Goals as goal
@@ -28,8 +31,10 @@ returns g c =
     (sym c.follow-gained.ensures.below) c.in_ok-ticks.ensures in
     rate_accepted s.ratio.gains s.ratio.ticks s.remainder s.ratio.some s.ratio.slow s.small
     m (g.met.A.Clock.lawful s.below) s.count (g.A.Clock.meaning after.below) (g.A.Alarm.appointment s.below) (g.A.Alarm.appointment after.below)
-    after.ratio.gains after.ratio.ticks after.remainder after.count s.kept.appointment after.kept.appointment
+    after.ratio.gains after.ratio.ticks after.remainder after.count s.kept.appointment c.take-2.new.self.appointment
     c.args.sample ticks c.follow-gained.result c.of-width.result.bits c.reading-from.result
     taken (ap (λ (x : Ratio). x.gains) c.follow-gained.ensures.ratio) (ap (λ (x : Ratio). x.ticks) c.follow-gained.ensures.ratio)
     c.follow-gained.ensures.remainder c.follow-gained.ensures.gained c.follow-gained.ensures.count
-    c.of-width.ensures c.reading-from.ensures c.follow-gained.ensures.kept
+    c.of-width.ensures c.reading-from.ensures
+    (subst (λ (k : Kept). within c.of-width.result.bits c.take-2.new.self.appointment ≡ after_take c.of-width.result.bits c.reading-from.result c.follow-gained.result (within c.of-width.result.bits k.appointment))
+    c.follow-gained.ensures.kept c.take-2.ensures)

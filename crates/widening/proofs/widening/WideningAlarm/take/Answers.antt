@@ -1,6 +1,9 @@
 use Rattle.std.proofs.Common.{◌≡◌, ℕ, ◌+◌, ◌^◌, ◌<◌, ◌≤◌, leb, sym, ap, ◌∙◌, subst, arith, pow_mono}
 use Rattle.clock.specs.Meaning.{Meaning, Lawful}
 use Rattle.clock.specs.Calls.{Accepted}
+use Rattle.clock.specs.Appointment.{after_take}
+use Rattle.clock.specs.Kept.{within}
+use Rattle.clock.specs.declared.kept.Kept.{Kept}
 use Rattle.widening.specs.Widening.{carry_after}
 use Rattle.clock.proofs.Keeping.{gains_less}
 use Rattle.widening.specs.WidenedLemmas.{widening_accepted}
@@ -35,5 +38,7 @@ returns g c =
     let carried : after.carry ≡ carry_after s.bits.count s.carry (leb (2 ^ m.width) (m.reading + gained)) =
     c.follow.ensures.carry ∙ λ i. carry_after s.bits.count s.carry (leb (turn i) (c.reading-low.ensures i + gained)) in
     widening_accepted m (g.A.Clock.meaning after.below) (g.A.Alarm.appointment s.below) (g.A.Alarm.appointment after.below) s.bits.count after.bits.count s.carry after.carry
-    s.kept.appointment after.kept.appointment c.args.sample gained c.wide-width.result.bits c.reading-from.result
-    (g.met.A.Clock.lawful s.below) taken c.follow.ensures.bits carried c.wide-width.ensures c.reading-from.ensures c.follow.ensures.kept
+    s.kept.appointment c.take-2.new.self.appointment c.args.sample gained c.of-width.result.bits c.reading-from.result
+    (g.met.A.Clock.lawful s.below) taken c.follow.ensures.bits carried c.of-width.ensures c.reading-from.ensures
+    (subst (λ (k : Kept). within c.of-width.result.bits c.take-2.new.self.appointment ≡ after_take c.of-width.result.bits c.reading-from.result gained (within c.of-width.result.bits k.appointment))
+    c.follow.ensures.kept c.take-2.ensures)
