@@ -1,11 +1,11 @@
 -- The words of a line that keeps the limits are read as that line. Assumes nothing.
-use Rattle.std.proofs.Common.{◌≡◌, ℕ, ◌+◌, ◌-◌, ◌^◌, ◌<◌, ◌≤◌, Bool, true, ◌&&◌, ltb, leb, List, [], ◌∷◌, length, Ok, codes, decimal, Result, refl, ap, ◌∙◌, arith}
+use Rattle.std.proofs.Common.{◌≡◌, ℕ, ◌+◌, ◌-◌, ◌^◌, ◌<◌, ◌≤◌, Bool, true, List, [], ◌∷◌, length, Ok, codes, decimal, Result, refl, ap, ◌∙◌, arith}
 use Rattle.std.specs.Option.{ok_or}
-use Rattle.std.proofs.lemmas.Bool.{and_from, and_parts, leb-true, ltb-true, le-leb, le-ltb, cond-true, cond-false}
+use Rattle.std.proofs.lemmas.Bool.{and_from, leb-true, le-leb, le-ltb, cond-true, cond-false}
 use Rattle.fault.specs.declared.Cause.TheVariants.{Grammar}
 use Rattle.fault.specs.declared.Fault.{Fault}
 use Rattle.words.specs.Number.{number_of}
-use Rattle.slots.specs.Limits.{kind_fits, action_fits, period_fits}
+use Rattle.slots.specs.Limits.{kind_fits, action_fits}
 use Rattle.jobs.specs.declared.Kind.{Kind}
 use Rattle.jobs.specs.declared.Kind.TheVariants.{Once, Every, Burst}
 use Rattle.jobs.specs.declared.Action.{Action}
@@ -14,6 +14,7 @@ use Rattle.line.specs.declared.line.Line.{Line}
 use Rattle.line.specs.Line.{◌>>=◌, Placed, Rest, fault_at, number_at, limited, slot_at, first_of, next, number, delay, period, once, every, burst, timing, reads, action, ending, line_of}
 use Rattle.line.specs.Text.{action_words, kind_words, line_words, Lawful}
 use Rattle.line.proofs.Binds.{bind_ok}
+use Rattle.line.proofs.Limits.{period_within, burst_within, job_within}
 use Rattle.line.proofs.Numbers.{number_decimal}
 
 -- the first word, and what is left after it
@@ -34,13 +35,6 @@ numbered least most r n ws small low high e =
     bind_ok _ (next_forth r (decimal n) ws e)
     ∙ bind_ok _ (bind_ok _ (number_forth r (decimal n) n (omega arith) refl) ∙ cond-true _ _ _ (and_from _ _ (le-leb least n low) (le-leb n most high)))
 
-period_back : (p : ℕ) → period_fits p ≡ true → (1 ≤ p) × (p ≤ 2 ^ 40 - 1)
-period_back p e =
-    let h = and_parts (leb 1 p) (ltb p (2 ^ 40)) e in
-    let low : 1 ≤ p = leb-true 1 p h.0 in
-    let high : p < 2 ^ 40 = ltb-true p (2 ^ 40) h.1 in
-    (low, omega arith)
-
 -- some state that has these words left
 abbrev Left : {A : Type 0} → Result (A × Rest) Fault → A → List (List ℕ) → Type 0
 Left m a ws = (r : Rest) × (m ≡ Ok (a, r)) × (r.words ≡ ws)
@@ -53,7 +47,7 @@ timed Once d ws r fits h e =
     let r₁ = after r (codes "once") (decimal d ∷ ws) in
     (after r₁ (decimal d) ws, bind_ok _ (next_forth r (codes "once") _ e) ∙ bind_ok _ (delayed r₁ d ws h refl), refl)
 timed (Every p) d ws r fits h e =
-    let b = period_back p fits in
+    let b = period_within p fits in
     let r₁ = after r (codes "every") (decimal p ∷ (decimal d ∷ ws)) in
     let r₂ = after r₁ (decimal p) (decimal d ∷ ws) in (
       after r₂ (decimal d) ws,
@@ -63,15 +57,14 @@ timed (Every p) d ws r fits h e =
       refl,
     )
 timed (Burst n p) d ws r fits h e =
-    let f = and_parts (leb 1 n && leb n 65535) (period_fits p) fits in
-    let c = and_parts (leb 1 n) (leb n 65535) f.0 in
-    let b = period_back p f.1 in
+    let f = burst_within n p fits in
+    let b = period_within p f.2 in
     let r₁ = after r (codes "burst") (decimal n ∷ (decimal p ∷ (decimal d ∷ ws))) in
     let r₂ = after r₁ (decimal n) (decimal p ∷ (decimal d ∷ ws)) in
     let r₃ = after r₂ (decimal p) (decimal d ∷ ws) in (
       after r₃ (decimal d) ws,
       bind_ok _ (next_forth r (codes "burst") _ e)
-          ∙ bind_ok _ (numbered 1 65535 r₁ n _ (omega arith) (leb-true 1 n c.0) (leb-true n 65535 c.1) refl)
+          ∙ bind_ok _ (numbered 1 65535 r₁ n _ (omega arith) f.0 f.1 refl)
           ∙ bind_ok _ (numbered 1 (2 ^ 40 - 1) r₂ p _ (omega arith) b.0 b.1 refl)
           ∙ bind_ok _ (delayed r₃ d ws h refl),
       refl,
@@ -91,11 +84,10 @@ line_forth free r l law e =
     let slot = l.slot in
     let more = kind_words l.job.kind l.delay (action_words l.job.action []) in
     let below : slot < 32 = law.0 in
-    let f = and_parts (ltb l.delay (2 ^ 40)) (kind_fits l.job.kind && action_fits l.job.action) law.2 in
-    let g = and_parts (kind_fits l.job.kind) (action_fits l.job.action) f.1 in
+    let j = job_within l.delay l.job law.2 in
     let r₁ = after r (decimal slot) more in
-    let t = timed l.job.kind l.delay (action_words l.job.action []) r₁ g.0 (ltb-true l.delay (2 ^ 40) f.0) refl in
-    let a = acted l.job.action [] t.0 g.1 t.2 in
+    let t = timed l.job.kind l.delay (action_words l.job.action []) r₁ j.1 j.0 refl in
+    let a = acted l.job.action [] t.0 j.2 t.2 in
     bind_ok _ (next_forth r (decimal slot) more e)
     ∙ bind_ok _ (bind_ok _ (number_forth r (decimal slot) slot (omega arith) refl) ∙ cond-false _ _ _ (le-ltb 31 slot (omega arith)) ∙ cond-true _ _ _ law.1)
     ∙ bind_ok _ t.1

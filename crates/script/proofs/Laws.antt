@@ -1,53 +1,23 @@
 -- A script is accepted exactly when it is the text of lawful lines, which it is read as. Assumes nothing.
-use Rattle.std.proofs.Common.{◌≡◌, ℕ, ◌+◌, ◌^◌, ◌<◌, Bool, true, false, cond, ◌&&◌, eqb, ltb, leb, List, [], ◌∷◌, ◌++◌, length, get_or, set, Ok, count_by, sym, refl, ap, ◌∙◌, subst, arith}
+use Rattle.std.proofs.Common.{◌≡◌, ℕ, ◌+◌, ◌<◌, Bool, true, false, cond, eqb, List, [], ◌∷◌, ◌++◌, length, get_or, set, Ok, count_by, sym, refl, ap, ◌∙◌, subst, arith}
 use Rattle.std.specs.List.{AllByRecursion, join_with_byte}
 use Rattle.std.proofs.lemmas.Grind.{common_steps}
 use Rattle.std.proofs.lemmas.List.{get_or-set_other}
 use Rattle.std.proofs.lemmas.List.Splits.{slice_split_at, join_with_byte-slice_split}
 use Rattle.std.proofs.lemmas.List.Sums.{sum_by-set}
-use Rattle.std.proofs.lemmas.Bool.{and_parts, leb-true, ltb-true, true≢false}
+use Rattle.std.proofs.lemmas.Bool.{true≢false}
 use Rattle.words.specs.Cuts.{cut}
-use Rattle.slots.specs.Limits.{kind_fits, action_fits, period_fits}
-use Rattle.jobs.specs.declared.Kind.{Kind}
-use Rattle.jobs.specs.declared.Kind.TheVariants.{Once, Every, Burst}
-use Rattle.jobs.specs.declared.Action.{Action}
-use Rattle.jobs.specs.declared.Action.TheVariants.{Read, Mark}
 use Rattle.line.specs.declared.line.Line.{Line}
 use Rattle.line.specs.Line.{line_of, whole_line}
 use Rattle.script.specs.Script.{last_piece, script_from, script_of}
 use Rattle.line.specs.Text.{line_text, Lawful}
-use Rattle.script.specs.Text.{script_text, Different, Law}
+use Rattle.script.specs.Text.{script_text, Different, Writes, Law}
 use Rattle.line.proofs.Back.{lined}
 use Rattle.line.proofs.Binds.{err_not_ok, same_ok, bind_ok, bind_back}
 use Rattle.words.proofs.Cuts.{cut_some}
 use Rattle.line.proofs.Forth.{line_forth}
-use Rattle.line.proofs.Letters.{Small, kind_small, action_small, line_text_words, line_text_lacks}
+use Rattle.line.proofs.Letters.{line_text_words, line_text_lacks}
 use Rattle.script.proofs.Pieces.{from_more}
-
-small_period : (p : ℕ) → period_fits p ≡ true → p < 2 ^ 64
-small_period p e =
-    let h = ltb-true p (2 ^ 40) (and_parts (leb 1 p) (ltb p (2 ^ 40)) e).1 in
-    omega arith
-
-small_kind : (k : Kind) → kind_fits k ≡ true → kind_small k
-small_kind Once e = tt
-small_kind (Every p) e = small_period p e
-small_kind (Burst n p) e =
-    let f = and_parts (leb 1 n && leb n 65535) (period_fits p) e in
-    let high = leb-true n 65535 (and_parts (leb 1 n) (leb n 65535) f.0).1 in
-    (omega arith, small_period p f.1)
-
-small_action : (a : Action) → action_fits a ≡ true → action_small a
-small_action (Read c) e = let high = leb-true c 15 e in omega arith
-small_action Mark e = tt
-
-small : (free : List Bool) (l : Line) → Lawful free l → Small l
-small free l law =
-    let f = and_parts (ltb l.delay (2 ^ 40)) (kind_fits l.job.kind && action_fits l.job.action) law.2 in
-    let g = and_parts (kind_fits l.job.kind) (action_fits l.job.action) f.1 in
-    let d : l.delay < 2 ^ 40 = ltb-true l.delay (2 ^ 40) f.0 in
-    let s : l.slot < 32 = law.0 in
-    record { slot = omega arith; delay = omega arith; kind = small_kind l.job.kind g.0; action = small_action l.job.action g.1 }
 
 -- a slot that is free after slot s was taken
 taken_now : (free : List Bool) (s : ℕ) → get_or (set free s false) s false ≡ false
@@ -73,26 +43,20 @@ lawful_before free s (l ∷ ls) h =
 script_forth : (ls : List Line) (n at : ℕ) (free : List Bool) → AllByRecursion (Lawful free) ls → Different ls → script_from n at free (cut 10 (script_text ls)) ≡ Ok ls
 script_forth [] n at free h d = refl
 script_forth (l ∷ ls) n at free h d =
-    let s = small free l h.0 in
     let some = cut_some 10 (script_text ls) in
-    let pieces = slice_split_at (λ b. eqb b 10) (line_text l) 10 (script_text ls) (line_text_lacks l s) refl in
+    let pieces = slice_split_at (λ b. eqb b 10) (line_text l) 10 (script_text ls) (line_text_lacks free l h.0) refl in
     let rest = script_forth ls (n + 1) (at + (length (line_text l) + 1)) (set free l.slot false) (lawful_later free l.slot ls h.1 d.0) d.1 in
     from_more n at free _ (line_text l) some.0 some.1 (pieces ∙ ap (λ ps. line_text l ∷ ps) some.2)
-    ∙ bind_ok _ (line_forth free (whole_line n at (line_text l)) l h.0 (line_text_words l s))
+    ∙ bind_ok _ (line_forth free (whole_line n at (line_text l)) l h.0 (line_text_words free l h.0))
     ∙ bind_ok _ (ap (script_from (n + 1) (at + (length (line_text l) + 1)) (set free l.slot false)) (sym some.2) ∙ rest)
 
 -- what is accepted
-pub record Written (free : List Bool) (text : List ℕ) (ls : List Line) : Type 0 where
-  pub is : text ≡ script_text ls
-  pub lawful : AllByRecursion (Lawful free) ls
-  pub different : Different ls
-
-last_back : (n at : ℕ) (free : List Bool) (p : List ℕ) (ls : List Line) → last_piece n at free p ≡ Ok ls → Written free p ls
-last_back n at free [] ls e = let W : List Line → Type 0 = λ ms. Written free [] ms in subst W (same_ok e) (record { is = refl; lawful = tt; different = tt })
+last_back : (n at : ℕ) (free : List Bool) (p : List ℕ) (ls : List Line) → last_piece n at free p ≡ Ok ls → Writes free ls p
+last_back n at free [] ls e = let W : List Line → Type 0 = λ ms. Writes free ms [] in subst W (same_ok e) (record { is = refl; lawful = tt; different = tt })
 last_back n at free (b ∷ bs) ls e = absurd (err_not_ok (bind_back (line_of free (whole_line n at (b ∷ bs))) _ ls e).2)
 
-script_back : (ps : List (List ℕ)) (n at : ℕ) (free : List Bool) (ls : List Line) → script_from n at free ps ≡ Ok ls → Written free (join_with_byte 10 ps) ls
-script_back [] n at free ls e = let W : List Line → Type 0 = λ ms. Written free [] ms in subst W (same_ok e) (record { is = refl; lawful = tt; different = tt })
+script_back : (ps : List (List ℕ)) (n at : ℕ) (free : List Bool) (ls : List Line) → script_from n at free ps ≡ Ok ls → Writes free ls (join_with_byte 10 ps)
+script_back [] n at free ls e = let W : List Line → Type 0 = λ ms. Writes free ms [] in subst W (same_ok e) (record { is = refl; lawful = tt; different = tt })
 script_back (p ∷ []) n at free ls e = last_back n at free p ls e
 script_back (p ∷ (q ∷ qs)) n at free ls e =
     let b = bind_back (line_of free (whole_line n at p)) _ ls e in
@@ -102,7 +66,7 @@ script_back (p ∷ (q ∷ qs)) n at free ls e =
     let more = script_back (q ∷ qs) (n + 1) (at + (length p + 1)) (set free l.slot false) c.0 c.1 in
     let before = lawful_before free l.slot c.0 more.lawful in
     let text : p ≡ line_text l = sym (join_with_byte-slice_split 32 p) ∙ ap (join_with_byte 32) here.words in
-    let W : List Line → Type 0 = λ ms. Written free (join_with_byte 10 (p ∷ (q ∷ qs))) ms in
+    let W : List Line → Type 0 = λ ms. Writes free ms (join_with_byte 10 (p ∷ (q ∷ qs))) in
     subst W (same_ok c.2) (record {
       is = ap (λ x. x ++ (10 ∷ join_with_byte 10 (q ∷ qs))) text ∙ ap (λ x. line_text l ++ (10 ∷ x)) more.is;
       lawful = (here.lawful, before.0);
