@@ -1,7 +1,7 @@
 -- What a step of a logger is to one of its slots. Assumes nothing.
-use Rattle.std.proofs.Common.{◌≡◌, ℕ, ◌+◌, ◌<◌, ◌≤◌, Bool, true, false, eqb, ◌⊎◌, length, set, Some, None, Ok, Err, Option, Result, sym, refl, ap, ◌∙◌, subst, inl, inr, arith}
-use Rattle.std.proofs.lemmas.List.{get_or-set_same, get_or-set_other, get_or_past, length-set}
-use Rattle.std.proofs.lemmas.Bool.{eqb-true, eqb-false, cases_lt}
+use Rattle.std.proofs.Common.{◌≡◌, ℕ, ◌+◌, ◌<◌, ◌≤◌, Bool, true, false, eqb, length, Some, None, Ok, Err, Option, Result, sym, refl, ap, ◌∙◌, subst, arith}
+use Rattle.std.proofs.lemmas.List.{get_or-set_same, get_or-set_other, get_or_past}
+use Rattle.std.proofs.lemmas.Bool.{eqb-true, eqb-false}
 use Rattle.fault.specs.declared.Fault.{Fault}
 use Rattle.std.proofs.lemmas.Grind.{common_steps}
 use Rattle.jobs.specs.declared.Slot.{Slot}
@@ -87,17 +87,11 @@ module _ {X : Type 0} (j : ℕ) (l m : Log X) (sized : length l.slots ≡ 32) wh
       same p q (ap (λ (x : Log X). x.moment) after) (ap (λ (x : Log X). slot_of x j) after ∙ slot_set_other l j k slot other) (λ f i. no_next n i) (λ i. no_next n i)
 
   pub here : (k : ℕ) (slot : Slot) → k ≡ j → k < 32 → m ≡ with_slot l k slot → slot_of m j ≡ slot
-  here k slot kj low after =
-      let within : k < length l.slots = omega arith in
-      ap (λ (x : Log X). slot_of x j) after ∙ subst (λ n. slot_of (with_slot l k slot) n ≡ slot) kj (slot_set l k slot within)
+  here k slot kj low after = grind (arith, common_steps)
 
   -- a slot that is set free is free, also past the table
   pub free_here : (k : ℕ) → k ≡ j → m ≡ with_slot l k Free → slot_of m j ≡ Free
-  free_here k kj after = ap (λ (x : Log X). slot_of x j) after ∙ subst (λ n. slot_of (with_slot l k Free) n ≡ Free) kj (freed_at (cases_lt k (length l.slots)))
-    where
-      freed_at : (k < length l.slots) ⊎ (length l.slots ≤ k) → slot_of (with_slot l k Free) k ≡ Free
-      freed_at (inl h) = slot_set l k Free h
-      freed_at (inr h) = get_or_past (set l.slots k Free) k Free (omega (arith, length-set l.slots k Free))
+  free_here k kj after = grind (arith, common_steps, get_or_past)
 
   changed_serve : (d : ℕ) (x : X) (r : Result ℕ Fault) → Step l (serve d x r) m → Changed (serve d x r)
   changed_serve d x (Ok t) a =
