@@ -11,7 +11,7 @@ use Rattle.queue.proofs.Ordered.{shuffled_inserted, shuffled_in_order}
 use Rattle.jobs.specs.declared.Kind.{Kind}
 use Rattle.jobs.specs.declared.Kind.TheVariants.{Once, Every, Burst}
 use Rattle.forecasting.specs.declared.pending.Pending.{Pending}
-use Rattle.forecasting.specs.Pending.{pending_order, again, put_back, fired_first, firings, first_due, after_first, spacing, goes_on, Calm}
+use Rattle.forecasting.specs.Pending.{pending_order, pending_compare, again, put_back, fired_first, firings, first_due, after_first, spacing, goes_on, Calm}
 
 none_some : {A : Type 0} {a : A} {as' : List A} → [] ≡ a ∷ as' → ⊥
 none_some {a = a} {as' = as'} e = let z : ◌≡◌ {A = ℕ} 0 1 = cc in omega arith
@@ -48,11 +48,11 @@ firings_nil (suc n) = refl
 
 -- ---- moments stay small
 
-all_inserted : (P : Pending → Type 0) (x : Pending) (q : List Pending) → P x → AllByRecursion P q → AllByRecursion P (inserted pending_order x q)
-all_inserted P x q h hs = all_shuffled P (x ∷ q) (inserted pending_order x q) (shuffled_inserted pending_order x q) (h, hs)
+all_inserted : (P : Pending → Type 0) (x : Pending) (q : List Pending) → P x → AllByRecursion P q → AllByRecursion P (inserted pending_compare x q)
+all_inserted P x q h hs = all_shuffled P (x ∷ q) (inserted pending_compare x q) (shuffled_inserted pending_order x q) (h, hs)
 
-pub all_in_order : (P : Pending → Type 0) (q : List Pending) → AllByRecursion P q → AllByRecursion P (in_order pending_order q)
-all_in_order P q h = all_shuffled P q (in_order pending_order q) (shuffled_in_order pending_order q) h
+pub all_in_order : (P : Pending → Type 0) (q : List Pending) → AllByRecursion P q → AllByRecursion P (in_order pending_compare q)
+all_in_order P q h = all_shuffled P q (in_order pending_compare q) (shuffled_in_order pending_order q) h
 
 pub calm_more : (b b' : ℕ) (q : List Pending) → b ≤ b' → AllByRecursion (Calm b) q → AllByRecursion (Calm b') q
 calm_more b b' q h all = All-weaker (Calm b) (Calm b') (λ p c. (omega (arith, c.0), c.1)) q all

@@ -7,7 +7,7 @@ use Rattle.queue.specs.Order.{in_order}
 use Rattle.line.specs.declared.line.Line.{Line}
 use Rattle.forecasting.specs.Forecast.{all_free, first_firings, forecast_of, places, how_many, row_after}
 use Rattle.script.specs.Lines.{lines_of, read_as}
-use Rattle.forecasting.specs.Pending.{pending, pending_order, firings, Calm}
+use Rattle.forecasting.specs.Pending.{pending, pending_compare, firings, Calm}
 use Rattle.script.specs.Script.{script_of}
 use Rattle.line.specs.Text.{Lawful}
 use Rattle.line.proofs.Binds.{bind_ok}
@@ -23,11 +23,11 @@ read_ok c = sym c.read.ensures.answer ∙ ap read_as c.in_ok-loaded.was
 lawful : (c : After-room-most) → AllByRecursion (Lawful all_free) (lines_of c.in_ok-loaded.loaded)
 lawful c = (c.read.ensures.law.written (lines_of c.in_ok-loaded.loaded) (read_ok c)).lawful
 
-plan_is : (c : After-room-most) → c.of-plan.result ≡ in_order pending_order (map (pending c.args.start.ticks) (lines_of c.in_ok-loaded.loaded))
+plan_is : (c : After-room-most) → c.of-plan.result ≡ in_order pending_compare (map (pending c.args.start.ticks) (lines_of c.in_ok-loaded.loaded))
 plan_is c =
     c.of-plan.ensures
-    ∙ ap (λ s. in_order pending_order (map (pending s) c.lines.result.now)) c.ticks.ensures
-    ∙ ap (λ ls. in_order pending_order (map (pending c.args.start.ticks) ls)) c.lines.ensures
+    ∙ ap (λ s. in_order pending_compare (map (pending s) c.lines.result.now)) c.ticks.ensures
+    ∙ ap (λ ls. in_order pending_compare (map (pending c.args.start.ticks) ls)) c.lines.ensures
 
 most_is : (c : After-room-most) → c.room-most.result ≡ places c.args.moments.now c.args.slots.now
 most_is c = c.room-most.ensures

@@ -3,7 +3,7 @@ use Rattle.std.proofs.lemmas.Bool.{cond-true, lt-ltb}
 use Rattle.queue.specs.Order.{inserted}
 use Rattle.queue.specs.Queue.{has_place}
 use Rattle.queue.proofs.Queued.{length_queued}
-use Rattle.forecasting.specs.Pending.{pending_order}
+use Rattle.forecasting.specs.Pending.{pending_compare}
 use Rattle.forecasting.proofs.plan.Plan.put.Goals as goal
 
 pub returns : goal.returns
@@ -13,6 +13,6 @@ returns c =
     let held = length_queued p.queue p.row within in
     let seen = ap length c.self.view_is in
     let free : p.queue.count < length p.row = omega (arith, c.self.invariant.0, held, seen, c.requires) in
-    c.add.ensures.queued pending_order
+    c.add.ensures.queued
     ∙ cond-true (has_place p.queue p.row) _ _ (lt-ltb p.queue.count (length p.row) free)
-    ∙ ap (inserted pending_order c.args.pending) c.self.view_is
+    ∙ ap (inserted pending_compare c.args.pending) c.self.view_is
