@@ -1,6 +1,6 @@
 -- An appointment that is set from the present reading: it stands with its whole delay. Assumes nothing.
 use Rattle.std.proofs.Common.{◌≡◌, ℕ, ◌+◌, ◌-◌, ◌^◌, ◌<◌, ◌≤◌, Bool, true, ◌&&◌, ltb, Ok, Err, ap, ◌∙◌, ⊎_elim, arith}
-use native.Mathlib.Nat.{mod_self}
+use Rattle.std.proofs.Math.Nat.{mod_self}
 use Rattle.std.proofs.lemmas.Bool.{lt-ltb, le-ltb, and_from, and_right, cond-true, cond-false, cases_lt}
 use Rattle.fault.specs.declared.Fault.{Fault}
 use Rattle.fault.specs.Table.{alarm_limits}
@@ -54,8 +54,7 @@ module _ {X : Type 0} (m₀ m₁ m₂ : Meaning X) (a₀ a₁ a₂ : Appointment
       far : 2 ^ m₀.width ≤ left → wait ≡ wait_for m₀ left
       far h =
           let r : Ok tt ≡ Err alarm_limits = set.answer ∙ ap told (same_setting ∙ set_too_far m₀.width m₀.reading left law.reading_fits h) in
-          let z : ◌≡◌ {A = ℕ} 0 1 = cc in
-          absurd (omega arith)
+          cc
 
   -- refused: what is left lies beyond the reach
   pub beyond : (f : Fault) → 0 < left → SetTo m₁ a₁ reading left (Err f) m₂ a₂ → wait_for m₀ left ≡ m₀.reach - 1
@@ -64,8 +63,7 @@ module _ {X : Type 0} (m₀ m₁ m₂ : Meaning X) (a₀ a₁ a₂ : Appointment
       near : left < 2 ^ m₀.width → wait_for m₀ left ≡ m₀.reach - 1
       near h =
           let r : Err f ≡ Ok tt = set.answer ∙ ap told (same_setting ∙ set_now m₀.width m₀.reading left law.reading_fits some h) in
-          let z : ◌≡◌ {A = ℕ} 0 1 = cc in
-          absurd (omega arith)
+          cc
 
       far : 2 ^ m₀.width ≤ left → wait_for m₀ left ≡ m₀.reach - 1
       far h = wait_never m₀ left (turn_never m₀ left law h)

@@ -1,6 +1,6 @@
 -- Places on a turn of n: a place is known by where a further way leads. Assumes nothing.
 use Rattle.std.proofs.Common.{◌≡◌, ℕ, ◌+◌, ◌-◌, ◌%◌, ◌<◌, sym, ap, ◌∙◌, mod-lt, add_comm, arith}
-use native.Mathlib.Nat.{add-mod-mod, add-mod_right}
+use Rattle.std.proofs.Math.Nat.{add-mod-mod, add-mod_right}
 use Rattle.clock.proofs.Wrapping.{add_cancel}
 
 module _ (n : ℕ) (some : 0 < n) where

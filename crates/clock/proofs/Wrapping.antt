@@ -1,8 +1,8 @@
 -- Arithmetic modulo n, by cases on whether a number has wrapped once. Assumes nothing.
 use Rattle.std.proofs.Common.{◌≡◌, ℕ, ◌+◌, ◌-◌, ◌%◌, ◌^◌, ◌<◌, ◌≤◌, ◌⊎◌, sym, ap, ◌∙◌, inl, inr, ⊎_elim, mod-eq_of_lt, arith}
 use Rattle.std.proofs.lemmas.Bool.{cases_lt}
-use native.Mathlib.Nat.{mod-eq-sub-mod, add-mod_right}
-use lib.Pow.{mod-mod-pow}
+use Rattle.std.proofs.Math.Nat.{mod-eq-sub-mod, add-mod_right}
+use Rattle.std.proofs.Math.Pow.{mod-mod-pow}
 
 pub below : (n x : ℕ) → x < n → x ≡ x % n
 below n x h = sym (mod-eq_of_lt h)

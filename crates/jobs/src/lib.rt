@@ -42,7 +42,7 @@ pub struct Job {
 #[derive(Clone, Copy, PartialEq, Eq, Debug)]
 pub enum Slot {
     Free,
-    // the next due moment; an errand is a job that a ticket was given for
+    // the next due moment; an errand is a job that a ticket was given for, and a flag, as all but its end is the same
     Standing { due: u64, job: Job, errand: bool },
     // an errand that fired at this due moment, and waits for its ticket
     Waiting { due: u64 },

@@ -121,7 +121,7 @@ impl<A: Alarm> Logger<A> {
     #[tactic(auto, using(crate::proofs::Fitting::fits_at, crate::proofs::Fitting::low_fired, crate::proofs::Fitting::fits_fired))]
     fn firing(&self, slot: usize) -> (Option<Firing>, Slot)
         requires { Reached self.now.moment.ticks (slot_of (view A.Clock.meaning self.now) slot) }
-        ensures answer { result ≡ (coming self.now.moment.ticks slot (slot_of (view A.Clock.meaning self.now) slot), fired (slot_of (view A.Clock.meaning self.now) slot)) }
+        ensures answer { let state = slot_of (view A.Clock.meaning self.now) slot in result ≡ (coming self.now.moment.ticks slot state, fired state) }
         ensures limits { slot_fits result.1 ≡ true }
     {
         self.entry(slot).fire(self.moment)

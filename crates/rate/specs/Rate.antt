@@ -1,6 +1,7 @@
 -- Rate: a clock that gains so many ticks for so many of the clock below, and carries what is left of a division on.
 -- Assumes nothing.
-use Rattle.std.specs.Prelude.{ℕ, ◌+◌, ◌-◌, ◌*◌, ◌/◌, ◌%◌, ◌^◌, min}
+use Rattle.std.specs.Prelude.{ℕ, ◌+◌, ◌-◌, ◌*◌, ◌/◌, ◌%◌, ◌^◌}
+use Rattle.std.specs.Int.{div_ceil}
 use Rattle.clock.specs.Meaning.{Meaning}
 
 -- m is the clock below, gains/ticks the rate; count is how many ticks were gained, of which the reading has the low bits
@@ -14,10 +15,6 @@ rate_meaning m gains ticks remainder count = record {
   tag = m.tag;
 }
 
--- the least whole number that is not below a / b
-abbrev pub ceiling : ℕ → ℕ → ℕ
-ceiling a b = a / b + min 1 (a % b)
-
 -- how many ticks of the clock below bring this many
 abbrev pub needed : ℕ → ℕ → ℕ → ℕ → ℕ
-needed gains ticks remainder left = ceiling (ticks * left - remainder) gains
+needed gains ticks remainder left = div_ceil (ticks * left - remainder) gains

@@ -1,5 +1,6 @@
 -- A clock at a rate keeps the laws of a clock, and moves as a clock moves. Assumes nothing.
 use Rattle.std.specs.Prelude.{◌≡◌, ℕ, zero, suc, ◌+◌, ◌-◌, ◌*◌, ◌/◌, ◌%◌, ◌^◌, ◌<◌, ◌≤◌, ◌∷◌, nat_le}
+use Rattle.std.specs.Int.{div_ceil}
 use Rattle.std.proofs.Common.{sym, ap, ◌∙◌, ⊎_elim, mod-lt, mul-add, mul_comm, add-suc, add-zero, mul-zero, mul-le-mul_left, div-mul-le_self, add-one, arith, pow_pos}
 use Rattle.std.proofs.Math.Path.{fun_ext}
 use Rattle.std.proofs.Math.Nat.{mod-add-mod, mul-add-div, div-eq_of_lt, div-add-mod, div-le_of_le-mul, add-div_right}
@@ -8,7 +9,7 @@ use Rattle.std.proofs.lemmas.Bool.{le-leb, lt-leb, cases_lt, cases_eq}
 use Rattle.clock.specs.Wrap.{plus}
 use Rattle.clock.specs.Meaning.{Meaning, Counts, Lawful, advanced}
 use Rattle.clock.specs.Hold.{first_from, wait_for}
-use Rattle.rate.specs.Rate.{rate_meaning, ceiling, needed}
+use Rattle.rate.specs.Rate.{rate_meaning, needed}
 use Rattle.clock.specs.declared.appointment.Appointment.{Appointment}
 use Rattle.clock.specs.Appointment.{after_take}
 use Rattle.clock.specs.Kept.{within}
@@ -33,14 +34,14 @@ div_mono : (a b p : ℕ) → 0 < p → a ≤ b → a / p ≤ b / p
 div_mono a b p some low = le-div (a / p) b p some (omega (arith, div-mul-le_self a p))
 
 -- a ceiling is at most y exactly when the product is enough
-ceiling_le : (a q y : ℕ) → 0 < q → a ≤ q * y → ceiling a q ≤ y
+ceiling_le : (a q y : ℕ) → 0 < q → a ≤ q * y → div_ceil a q ≤ y
 ceiling_le a q y some enough =
     ⊎_elim
     (λ (h : a / q < y). omega arith)
     (λ (h : y ≤ a / q). omega (arith, div-le_of_le-mul q {m = a} {n = y} enough, div-add-mod a q, mul-le-mul_left q h))
     (cases_lt (a / q) y)
 
-ceiling_enough : (a q y : ℕ) → 0 < q → ceiling a q ≤ y → a ≤ q * y
+ceiling_enough : (a q y : ℕ) → 0 < q → div_ceil a q ≤ y → a ≤ q * y
 ceiling_enough a q y some high =
     ⊎_elim
     (λ (e : a % q ≡ 0). let le : a / q ≤ y = omega arith in omega (arith, div-add-mod a q, mul-le-mul_left q le))

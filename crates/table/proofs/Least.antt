@@ -1,13 +1,12 @@
 -- The first of a table's records is the firing that comes soonest. Assumes nothing.
-use Rattle.std.proofs.Common.{◌≡◌, ℕ, suc, ◌<◌, ◌≤◌, Bool, true, false, cond, leb, ◌⊎◌, List, [], ◌∷◌, Some, None, Option, refl, ap, ◌∙◌, inl, inr, arith}
+use Rattle.std.proofs.Common.{◌≡◌, ℕ, suc, ◌<◌, Bool, true, false, cond, leb, List, [], ◌∷◌, Some, None, Option, refl, ap, ◌∙◌, arith}
 use Rattle.std.specs.Ordering.{is_lt}
-use Rattle.std.proofs.lemmas.Bool.{leb-true, leb-false, cond-true, cond-false}
+use Rattle.std.proofs.lemmas.Bool.Decides.{nat_tests}
 use Rattle.queue.specs.declared.dues.Due.{Due}
 use Rattle.queue.specs.Due.{due_compare, due_order}
 use Rattle.queue.specs.Order.{inserted, in_order}
 use Rattle.queue.specs.Row.{first}
-use Rattle.queue.proofs.DueOrder.{due_strict, less_from_earlier}
-use Rattle.queue.proofs.Ordered.{less_one_way}
+use Rattle.queue.proofs.DueOrder.{due_strict}
 use Rattle.queue.proofs.Sorted.{in_order_cons}
 use Rattle.jobs.specs.declared.Slot.{Slot}
 use Rattle.jobs.specs.declared.Slot.TheVariants.{Free, Standing, Waiting}
@@ -37,16 +36,8 @@ first_inserted d (y ∷ ys) =
 -- of two firings the first comes before a later slot's unless that is due earlier
 front_by : (f g : Firing) → f.slot < g.slot → (b : Bool) → leb f.due g.due ≡ b
     → cond (is_lt (due_compare (as_due f) (as_due g))) (Some (as_due f)) (Some (as_due g)) ≡ its_due (cond b (Some f) (Some g))
-front_by f g low true t = cond-true _ _ _ (less_from_earlier (as_due f) (as_due g) (early (leb-true _ _ t)))
-  where
-    early : f.due ≤ g.due → (f.due < g.due) ⊎ ((f.due ≡ g.due) × (f.slot < g.slot))
-    early h = by (leb g.due f.due) refl
-      where
-        by : (b : Bool) → leb g.due f.due ≡ b → (f.due < g.due) ⊎ ((f.due ≡ g.due) × (f.slot < g.slot))
-        by true e = inr (omega (arith, leb-true _ _ e), low)
-        by false e = inl (leb-false _ _ e)
-front_by f g low false t =
-    cond-false _ _ _ (less_one_way due_order (as_due g) (as_due f) (less_from_earlier (as_due g) (as_due f) (inl (leb-false _ _ t))))
+front_by f g low true t = grind (arith, nat_tests)
+front_by f g low false t = grind (arith, nat_tests)
 
 front_is : (s j : ℕ) (f : Firing) (rest : List Slot) → f.slot ≡ j → (o : Option Firing) → Answer s (suc j) rest o
     → front (as_due f) (its_due o) ≡ its_due (sooner (Some f) o)

@@ -13,10 +13,7 @@ never e = let z : ◌≡◌ {A = ℕ} 0 1 = cc in absurd (omega arith)
 -- the number of a slot does not matter to when it is due
 pub same_due : (s m n : ℕ) (slot : Slot) (f g : Firing) → coming s m slot ≡ Some f → coming s n slot ≡ Some g → f.due ≡ g.due
 same_due s m n Free f g p q = never p
-same_due s m n (Standing due job errand) f g p q = sym (due_is p) ∙ due_is q
-  where
-    due_is : {f g : Firing} → Some f ≡ Some g → f.due ≡ g.due
-    due_is {f} {g} e = let same : f ≡ g = cc in ap (λ (x : Firing). x.due) same
+same_due s m n (Standing due job errand) f g p q = grind arith
 same_due s m n (Waiting due) f g p q = never p
 
 same_none : (s m n : ℕ) (slot : Slot) → coming s m slot ≡ None → coming s n slot ≡ None
@@ -26,14 +23,12 @@ same_none s m n (Waiting due) p = refl
 
 pub coming_at : (s n : ℕ) (slot : Slot) (f : Firing) → coming s n slot ≡ Some f → f.at ≡ s
 coming_at s n Free f p = never p
-coming_at s n (Standing due job errand) f p =
-    let same : record { slot = n; due = due; at = s; action = job.action } ≡ f = cc in sym (ap (λ (x : Firing). x.at) same)
+coming_at s n (Standing due job errand) f p = grind arith
 coming_at s n (Waiting due) f p = never p
 
 pub coming_slot : (s n : ℕ) (slot : Slot) (f : Firing) → coming s n slot ≡ Some f → f.slot ≡ n
 coming_slot s n Free f p = never p
-coming_slot s n (Standing due job errand) f p =
-    let same : record { slot = n; due = due; at = s; action = job.action } ≡ f = cc in sym (ap (λ (x : Firing). x.slot) same)
+coming_slot s n (Standing due job errand) f p = grind arith
 coming_slot s n (Waiting due) f p = never p
 
 -- f is the firing of one of the slots, which are numbered from j on: the earliest of all, and the lowest of those

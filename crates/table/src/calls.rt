@@ -7,7 +7,7 @@ ghost use Rattle.table.specs.Table.{nearest};
 
 use crate::Table;
 use crate::agenda::Agenda;
-use crate::rows::{shortest, state_of, store};
+use crate::rows::{shortest, store};
 use jobs::Slot;
 use queue::Due;
 
@@ -26,7 +26,7 @@ impl Table {
     pub fn state(&self, slot: usize) -> Slot
         ensures { result ≡ slice_index_or self.now slot Free }
     {
-        state_of(&self.slots, slot)
+        self.slots.get(slot).copied().unwrap_or(Slot::Free)
     }
 
     // Puts a slot into a state; there is none past the table to put.

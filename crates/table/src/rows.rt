@@ -1,8 +1,7 @@
-// A row of slots: a look at one, one written, and the smallest distance.
-ghost use Rattle.std.specs.Prelude.{◌≡◌, ◌<◌, ◌≤◌, length, slice_index_or, slice_set};
+// A row of slots: one written, and the smallest distance.
+ghost use Rattle.std.specs.Prelude.{◌≡◌, ◌<◌, ◌≤◌, length, slice_set};
 ghost use Rattle.table.specs.Dues.{due_of, planned};
 ghost use Rattle.table.specs.Table.{nearest};
-ghost use Rattle.jobs.specs.declared.Slot.TheVariants.{Free};
 
 use crate::agenda::Agenda;
 use jobs::Slot;
@@ -21,13 +20,6 @@ fn record_of(state: Slot, slot: usize) -> Option<Due>
         }),
         Slot::Free | Slot::Waiting { .. } => None,
     }
-}
-
-// A slot past the row counts as free.
-pub(crate) fn state_of(slots: &[Slot], slot: usize) -> Slot
-    ensures { result ≡ slice_index_or slots.now slot Free }
-{
-    slots.get(slot).copied().unwrap_or(Slot::Free)
 }
 
 // Puts a slot into a state, and keeps the agenda in step; there is none past the row to put.

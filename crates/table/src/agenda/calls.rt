@@ -7,6 +7,7 @@ use super::Agenda;
 use queue::{Due, Queue};
 
 impl Agenda {
+    #[tactic(auto, using(queue::proofs::Queued::queued_none))]
     pub(crate) fn new() -> Agenda
         ensures { result ≡ [] }
     {

@@ -1,4 +1,4 @@
-use Rattle.std.proofs.Common.{rules, ◌≡◌, refl, ap, ◌∙◌}
+use Rattle.std.proofs.Common.{rules, ◌≡◌, refl, ap, ◌∙◌, subst}
 use Rattle.clock.specs.Meaning.{Meaning}
 use Rattle.clock.specs.Kept.{within}
 use Rattle.clock.specs.Hold.{wait_for, hold_of}
@@ -21,7 +21,7 @@ returns g c =
     ∙ rate_wait s.ratio.gains s.ratio.ticks s.remainder s.ratio.some s.ratio.slow s.small m (g.met.A.Clock.lawful s.below) s.count left)
     c.at-appointment.result c.hold_over.result c.hold_over.ensures.answer in
     record {
-      answer = answer ∙ ap (hold_of (above m)) here;
+      answer = subst (λ a. c.hold_over.result ≡ hold_of (above m) a) here answer;
       clock = ap above c.hold_over.ensures.clock;
       appointment = ap (λ (x : Meaning g.row.A-Sample.Denot). within x.width s.kept.appointment) c.hold_over.ensures.clock;
     }
