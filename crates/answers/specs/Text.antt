@@ -1,9 +1,8 @@
 -- The text of an answer, without the end of its line.
 -- Assumes nothing.
-use Rattle.std.specs.Prelude.{ℕ, cond, List, ◌++◌, Some, None, codes, decimal}
+use Rattle.std.specs.Prelude.{ℕ, Bool, cond, List, ◌++◌, Some, None, codes, decimal}
 use Rattle.fault.specs.Text.{fault_text}
-use Rattle.jobs.specs.declared.Action.{Action}
-use Rattle.jobs.specs.declared.Action.TheVariants.{Read, Mark}
+use Rattle.jobs.specs.Text.{action_text}
 use Rattle.jobs.specs.declared.Firing.{Firing}
 use Rattle.answers.specs.declared.Answer.{Answer}
 use Rattle.answers.specs.declared.Answer.TheVariants as says
@@ -12,9 +11,8 @@ use Rattle.answers.specs.declared.AlarmAnswer.TheVariants as alarm
 use Rattle.answers.specs.declared.LoggerAnswer.{LoggerAnswer}
 use Rattle.answers.specs.declared.LoggerAnswer.TheVariants as logger
 
-abbrev pub action_text : Action → List ℕ
-action_text (Read channel) = codes "read " ++ decimal channel
-action_text Mark = codes "mark"
+abbrev pub yes_no : Bool → List ℕ
+yes_no said = cond said (codes "yes") (codes "no")
 
 abbrev pub alarm_text : AlarmAnswer → List ℕ
 alarm_text (alarm.Width bits) = codes "width " ++ decimal bits
@@ -22,7 +20,7 @@ alarm_text (alarm.Reach ticks) = codes "reach " ++ decimal ticks
 alarm_text (alarm.Reading reading) = codes "reading " ++ decimal reading
 alarm_text (alarm.Took gained) = codes "took " ++ decimal gained
 alarm_text alarm.Set = codes "set"
-alarm_text (alarm.Stopped was) = codes "stopped " ++ cond was (codes "yes") (codes "no")
+alarm_text (alarm.Stopped was) = codes "stopped " ++ yes_no was
 alarm_text (alarm.Claimed (Some point)) = codes "claimed " ++ decimal point
 alarm_text (alarm.Claimed None) = codes "claimed none"
 
@@ -34,11 +32,11 @@ abbrev pub logger_text : LoggerAnswer → List ℕ
 logger_text (logger.Served moment) = codes "served " ++ decimal moment
 logger_text logger.SetUp = codes "set up"
 logger_text (logger.Ticket slot) = codes "ticket " ++ decimal slot
-logger_text (logger.Settled outcome) = codes "settled " ++ (decimal outcome.due ++ (codes " " ++ cond outcome.fired (codes "yes") (codes "no")))
+logger_text (logger.Settled outcome) = codes "settled " ++ (decimal outcome.due ++ (codes " " ++ yes_no outcome.fired))
 logger_text logger.NoTicket = codes "no ticket"
 logger_text (logger.CalledOff due) = codes "called off " ++ decimal due
-logger_text (logger.Fired firing) = fired_text firing
-logger_text logger.NoneDue = codes "none"
+logger_text (logger.Next (Some firing)) = fired_text firing
+logger_text (logger.Next None) = codes "none"
 logger_text logger.Loaded = codes "loaded"
 
 abbrev pub answer_text : Answer → List ℕ

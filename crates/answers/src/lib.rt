@@ -1,11 +1,12 @@
 // What `replay` answers to the lines of a log, and the text of each answer.
 #![tactic(auto)]
 
-ghost use Rattle.std.specs.Prelude.{Some};
-ghost use Rattle.answers.specs.Text.{alarm_text, fired_text, logger_text, answer_text};
+ghost use Rattle.std.specs.Prelude.{◌≡◌, Some};
+ghost use Rattle.answers.specs.Text.{yes_no, alarm_text, logger_text, answer_text};
+ghost use Rattle.answers.specs.declared.Answer.TheVariants.{Alarm, Logger, Refused};
 
 use fault::Fault;
-use jobs::{Action, Firing, Outcome};
+use jobs::{Firing, Outcome};
 use std::fmt;
 
 #[derive(Clone, Copy)]
@@ -47,10 +48,33 @@ pub enum LoggerAnswer {
     NoTicket,
     // the moment at which the job would have been due
     CalledOff(u64),
-    Fired(Firing),
-    NoneDue,
+    Next(Option<Firing>),
     // a script was loaded
     Loaded,
+}
+
+impl From<AlarmAnswer> for Answer {
+    ghost from_gives = { λ a r. r ≡ Alarm a };
+
+    fn from(answer: AlarmAnswer) -> Answer {
+        Answer::Alarm(answer)
+    }
+}
+
+impl From<LoggerAnswer> for Answer {
+    ghost from_gives = { λ a r. r ≡ Logger a };
+
+    fn from(answer: LoggerAnswer) -> Answer {
+        Answer::Logger(answer)
+    }
+}
+
+impl From<Fault> for Answer {
+    ghost from_gives = { λ f r. r ≡ Refused f };
+
+    fn from(fault: Fault) -> Answer {
+        Answer::Refused(fault)
+    }
 }
 
 impl fmt::Display for Answer {
@@ -80,8 +104,7 @@ impl fmt::Display for AlarmAnswer {
             AlarmAnswer::Reading(reading) => write!(f, "reading {reading}"),
             AlarmAnswer::Took(gained) => write!(f, "took {gained}"),
             AlarmAnswer::Set => write!(f, "set"),
-            AlarmAnswer::Stopped(true) => write!(f, "stopped yes"),
-            AlarmAnswer::Stopped(false) => write!(f, "stopped no"),
+            AlarmAnswer::Stopped(was) => write!(f, "stopped {}", YesNo(was)),
             AlarmAnswer::Claimed(Some(point)) => write!(f, "claimed {point}"),
             AlarmAnswer::Claimed(None) => write!(f, "claimed none"),
         }
@@ -96,35 +119,35 @@ impl fmt::Display for LoggerAnswer {
             LoggerAnswer::Served(moment) => write!(f, "served {moment}"),
             LoggerAnswer::SetUp => write!(f, "set up"),
             LoggerAnswer::Ticket(slot) => write!(f, "ticket {slot}"),
-            LoggerAnswer::Settled(Outcome { due, fired: true }) => write!(f, "settled {due} yes"),
-            LoggerAnswer::Settled(Outcome { due, fired: false }) => write!(f, "settled {due} no"),
+            LoggerAnswer::Settled(Outcome { due, fired }) => {
+                write!(f, "settled {due} {}", YesNo(fired))
+            }
             LoggerAnswer::NoTicket => write!(f, "no ticket"),
             LoggerAnswer::CalledOff(due) => write!(f, "called off {due}"),
-            LoggerAnswer::Fired(firing) => {
-                let fired = Fired { firing };
-                write!(f, "{fired}")
-            }
-            LoggerAnswer::NoneDue => write!(f, "none"),
+            LoggerAnswer::Next(
+                Some(
+                    Firing {
+                        slot,
+                        due,
+                        at,
+                        action,
+                    },
+                ),
+            ) => { write!(f, "fired {slot} {due} {at} {action}") }
+            LoggerAnswer::Next(None) => write!(f, "none"),
             LoggerAnswer::Loaded => write!(f, "loaded"),
         }
     }
 }
 
+// A bool as it is printed.
 #[derive(Clone, Copy)]
-pub struct Fired {
-    firing: Firing,
-}
+struct YesNo(bool);
 
-impl fmt::Display for Fired {
-    ghost output = { λ a. Some (fired_text a.firing) };
+impl fmt::Display for YesNo {
+    ghost output = { λ y. Some (yes_no y.0) };
 
     fn fmt<W: fmt::Write>(&self, f: &mut fmt::Formatter<W>) -> fmt::Result {
-        let slot = self.firing.slot;
-        let due = self.firing.due;
-        let at = self.firing.at;
-        match self.firing.action {
-            Action::Read { channel } => write!(f, "fired {slot} {due} {at} read {channel}"),
-            Action::Mark => write!(f, "fired {slot} {due} {at} mark"),
-        }
+        f.write_str(if self.0 { "yes" } else { "no" })
     }
 }

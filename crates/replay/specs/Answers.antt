@@ -5,11 +5,14 @@ use Rattle.fault.specs.declared.Fault.{Fault}
 use Rattle.clock.specs.declared.appointment.Appointment.{Appointment}
 use Rattle.clock.specs.Meaning.{Meaning}
 use Rattle.clock.specs.Calls.{Taken, SetTo, StoppedBy, ClaimedBy, HeldFor}
+use Rattle.std.specs.declared.io.Error.{Error}
 use Rattle.answers.specs.declared.Answer.{Answer}
 use Rattle.answers.specs.declared.Answer.TheVariants as says
 use Rattle.answers.specs.declared.AlarmAnswer.TheVariants as alarm
 use Rattle.replay.specs.declared.call.Call.{Call}
 use Rattle.replay.specs.declared.call.Call.TheVariants as asks
+use Rattle.replay.specs.declared.failure.Failure.{Failure}
+use Rattle.replay.specs.declared.failure.Failure.TheVariants as fails
 
 abbrev pub took : Result ℕ Fault → Answer
 took (Ok gained) = says.Alarm (alarm.Took gained)
@@ -29,3 +32,14 @@ module _ {X : Type 0} (m : Meaning X) (a : Appointment) where
   Answers asks.Stop r m' a' = (t : Bool) × (r ≡ says.Alarm (alarm.Stopped t)) × StoppedBy m a t m' a'
   Answers asks.Claim r m' a' = (t : Option ℕ) × (r ≡ says.Alarm (alarm.Claimed t)) × ClaimedBy m a t m' a'
   Answers asks.Hold r m' a' = (t : ℕ) × (r ≡ says.Hold t) × HeldFor m a t m' a'
+
+-- a refused call is answered with its fault
+abbrev pub told : Result Answer Fault → Answer
+told (Ok answer) = answer
+told (Err fault) = says.Refused fault
+
+-- what a line is answered that failed
+abbrev pub Fails : Failure → ℕ → Result Answer Error → Type 0
+Fails fails.NotUnderstood line r = r ≡ Ok (says.NotUnderstood line)
+Fails (fails.Refused fault) line r = r ≡ Ok (told (Err fault))
+Fails (fails.Io error) line r = r ≡ Err error

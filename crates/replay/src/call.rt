@@ -1,6 +1,6 @@
 // The calls of an alarm, and what an alarm answers to each.
 ghost use Rattle.std.specs.Prelude.{◌≡◌};
-ghost use Rattle.replay.specs.Answers.{Answers, took, was_set};
+ghost use Rattle.replay.specs.Answers.{Answers, told};
 
 use answers::{AlarmAnswer, Answer};
 use clock::alarm::Alarm;
@@ -19,35 +19,38 @@ pub enum Call<X> {
     Hold,
 }
 
-pub fn ask<A: Alarm>(alarm: &mut A, call: Call<A::Sample>) -> Answer
-    ensures { Answers (A.Clock.meaning alarm.old) (A.Alarm.appointment alarm.old) call result (A.Clock.meaning alarm.new) (A.Alarm.appointment alarm.new) }
+impl<X> Call<X> {
+    // The call with its sample, if it has one, as f turns it.
+    pub fn try_map<Y, E, F: FnOnce(X) -> Result<Y, E> + Drop>(self, f: F) -> Result<Call<Y>, E>
+        requires { F.IsAlwaysCallable f }
+    {
+        Ok(match self {
+            Call::Width => Call::Width,
+            Call::Reach => Call::Reach,
+            Call::Reading => Call::Reading,
+            Call::Take(sample) => Call::Take(f(sample)?),
+            Call::Set { reference, delay } => Call::Set { reference, delay },
+            Call::Stop => Call::Stop,
+            Call::Claim => Call::Claim,
+            Call::Hold => Call::Hold,
+        })
+    }
+}
+
+pub fn ask<A: Alarm>(alarm: &mut A, call: Call<A::Sample>) -> Result<Answer, Fault>
+    ensures { Answers (A.Clock.meaning alarm.old) (A.Alarm.appointment alarm.old) call (told result) (A.Clock.meaning alarm.new) (A.Alarm.appointment alarm.new) }
 {
-    match call {
-        Call::Width => Answer::Alarm(AlarmAnswer::Width(alarm.width())),
-        Call::Reach => Answer::Alarm(AlarmAnswer::Reach(alarm.reach())),
-        Call::Reading => Answer::Alarm(AlarmAnswer::Reading(alarm.reading())),
-        Call::Take(sample) => took(alarm.take(sample)),
-        Call::Set { reference, delay } => was_set(alarm.set(reference, delay)),
-        Call::Stop => Answer::Alarm(AlarmAnswer::Stopped(alarm.stop())),
-        Call::Claim => Answer::Alarm(AlarmAnswer::Claimed(alarm.claim())),
+    Ok(match call {
+        Call::Width => AlarmAnswer::Width(alarm.width()).into(),
+        Call::Reach => AlarmAnswer::Reach(alarm.reach()).into(),
+        Call::Reading => AlarmAnswer::Reading(alarm.reading()).into(),
+        Call::Take(sample) => AlarmAnswer::Took(alarm.take(sample)?).into(),
+        Call::Set { reference, delay } => {
+            alarm.set(reference, delay)?;
+            AlarmAnswer::Set.into()
+        }
+        Call::Stop => AlarmAnswer::Stopped(alarm.stop()).into(),
+        Call::Claim => AlarmAnswer::Claimed(alarm.claim()).into(),
         Call::Hold => Answer::Hold(alarm.hold()),
-    }
-}
-
-fn took(taken: Result<u64, Fault>) -> Answer
-    ensures { result ≡ took taken }
-{
-    match taken {
-        Ok(gained) => Answer::Alarm(AlarmAnswer::Took(gained)),
-        Err(fault) => Answer::Refused(fault),
-    }
-}
-
-fn was_set(done: Result<(), Fault>) -> Answer
-    ensures { result ≡ was_set done }
-{
-    match done {
-        Ok(()) => Answer::Alarm(AlarmAnswer::Set),
-        Err(fault) => Answer::Refused(fault),
-    }
+    })
 }

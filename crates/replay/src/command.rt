@@ -1,7 +1,6 @@
 // What a line of the log asks for.
 use crate::call::Call;
-use crate::logcall::LogCall;
-use crate::plan::{Device, Layer, Layers, Plan};
+use crate::plan::{Device, Layer, Plan};
 use jobs::{Action, Job, Kind};
 use words::{Words, number};
 
@@ -10,9 +9,28 @@ pub enum Command {
     Build(Plan),
     Ask(Call<u64>),
     Logger { number: u16, start: u64 },
-    Log(LogCall<u64>),
+    Log(LogCall),
     // the lines that follow are a script
     Load,
+}
+
+// The calls of a logger that an alarm has not. The sample is the number as it stands in the line.
+#[derive(Clone, Copy)]
+pub enum LogCall {
+    Serve(u64),
+    SetUp { wanted: Wanted, job: Job },
+    Errand { wanted: Wanted, action: Action },
+    Settle { slot: usize },
+    CallOff { slot: usize },
+    Next,
+}
+
+// The slot that a job is wanted in, a delay after a reference.
+#[derive(Clone, Copy)]
+pub struct Wanted {
+    pub slot: usize,
+    pub reference: u64,
+    pub delay: u64,
 }
 
 impl Command {
@@ -77,18 +95,18 @@ fn plan(device: Device, words: &mut Words) -> Option<Command> {
 }
 
 // Up to three.
-fn layers(words: &mut Words) -> Option<Layers> {
+fn layers(words: &mut Words) -> Option<[Option<Layer>; 3]> {
     let low = layer(words)?;
     let middle = layer(words)?;
     let high = layer(words)?;
-    Some(Layers { low, middle, high })
+    Some([low, middle, high])
 }
 
-// The next layer, absent at the end of the line.
-fn layer(words: &mut Words) -> Option<Layer> {
+// The next layer, if the line does not end before it.
+fn layer(words: &mut Words) -> Option<Option<Layer>> {
     match words.next() {
-        None => Some(Layer::Absent),
-        Some(name) => named_layer(name, words),
+        None => Some(None),
+        Some(name) => Some(Some(named_layer(name, words)?)),
     }
 }
 
@@ -144,7 +162,7 @@ fn logger(words: &mut Words) -> Option<Command> {
     Some(Command::Logger { number, start })
 }
 
-fn log_call(name: &[u8], words: &mut Words) -> Option<LogCall<u64>> {
+fn log_call(name: &[u8], words: &mut Words) -> Option<LogCall> {
     match name {
         b"serve" => Some(LogCall::Serve(number_of(words)?)),
         b"setup" => set_up(words),
@@ -155,7 +173,7 @@ fn log_call(name: &[u8], words: &mut Words) -> Option<LogCall<u64>> {
 }
 
 // A call with no more than a slot.
-fn slot_call(name: &[u8], words: &mut Words) -> Option<LogCall<u64>> {
+fn slot_call(name: &[u8], words: &mut Words) -> Option<LogCall> {
     match name {
         b"settle" => Some(LogCall::Settle { slot: slot(words)? }),
         b"calloff" => Some(LogCall::CallOff { slot: slot(words)? }),
@@ -163,31 +181,28 @@ fn slot_call(name: &[u8], words: &mut Words) -> Option<LogCall<u64>> {
     }
 }
 
-fn set_up(words: &mut Words) -> Option<LogCall<u64>> {
-    let slot = slot(words)?;
-    let reference = number_of(words)?;
-    let delay = number_of(words)?;
+fn set_up(words: &mut Words) -> Option<LogCall> {
+    let wanted = wanted_of(words)?;
     let kind = kind(words)?;
     let action = action(words)?;
     let job = Job { kind, action };
-    Some(LogCall::SetUp {
-        slot,
-        reference,
-        delay,
-        job,
-    })
+    Some(LogCall::SetUp { wanted, job })
 }
 
-fn errand(words: &mut Words) -> Option<LogCall<u64>> {
+fn errand(words: &mut Words) -> Option<LogCall> {
+    let wanted = wanted_of(words)?;
+    let action = action(words)?;
+    Some(LogCall::Errand { wanted, action })
+}
+
+fn wanted_of(words: &mut Words) -> Option<Wanted> {
     let slot = slot(words)?;
     let reference = number_of(words)?;
     let delay = number_of(words)?;
-    let action = action(words)?;
-    Some(LogCall::Errand {
+    Some(Wanted {
         slot,
         reference,
         delay,
-        action,
     })
 }
 

@@ -1,8 +1,11 @@
 // The log: lines in, and answers out, a line for a line.
+use crate::command::Command;
+use crate::failure::Failure;
 use answers::Answer;
 use std::alloc::Global;
 use std::io;
 use std::io::{BufRead, StdinLock};
+use std::ops::ControlFlow;
 
 #[derive(Drop)]
 pub struct Lines {
@@ -25,37 +28,54 @@ impl Lines {
         }
     }
 
-    // Reads the next line; false at the end of the input.
-    pub fn advance(&mut self) -> io::Result<bool> {
+    // The next line, without the byte 10 that ends it, which the last one may lack; none at the end of the input.
+    fn next_line(&mut self) -> io::Result<Option<&[u8]>> {
         self.line.clear();
         self.number = self.number.saturating_add(1);
         let read = self.input.read_until(b'\n', &mut self.line)?;
-        Ok(read > 0)
-    }
-
-    // The line without the byte 10 that ends it; the last line may lack that.
-    pub fn text(&self) -> &[u8] {
-        match self.line.as_slice() {
+        if read == 0 {
+            return Ok(None);
+        }
+        Ok(Some(match self.line.as_slice() {
             [text @ .., b'\n'] => text,
             text => text,
-        }
+        }))
     }
 
-    pub fn number(&self) -> u64 {
-        self.number
+    // Answers the lines, each as its command is answered, up to one that breaks off, or to the end of the input.
+    pub fn answer_each<B: Drop, F>(&mut self, mut answer: F) -> io::Result<Option<B>>
+    where
+        F: FnMut(&mut Lines, Command) -> Result<ControlFlow<B, Answer>, Failure>,
+        requires { F.IsAlwaysCallable answer }
+    {
+        for _ in 0..u64::MAX {
+            let Some(line) = self.next_line()? else {
+                break;
+            };
+            let command = Command::parse(line);
+            let number = self.number;
+            let answered = match command {
+                Some(command) => answer(self, command),
+                None => Err(Failure::NotUnderstood),
+            };
+            match answered {
+                Ok(ControlFlow::Continue(answer)) => self.print(answer)?,
+                Ok(ControlFlow::Break(end)) => return Ok(Some(end)),
+                Err(failure) => self.print(failure.answer(number)?)?,
+            }
+        }
+        Ok(None)
     }
 
     // Reads lines up to one that is a single `.`, and gives them as one text; none where the input ends first.
     pub fn script(&mut self) -> io::Result<Option<Vec<u8>>> {
         let mut script = Vec::new(self.rt.alloc());
         for _ in 0..u64::MAX {
-            if !self.advance()? {
-                break;
+            match self.next_line()? {
+                None => break,
+                Some(b".") => return Ok(Some(script)),
+                Some(_) => script.extend_from_slice(self.line.as_slice())?,
             }
-            if let b"." = self.text() {
-                return Ok(Some(script));
-            }
-            script.extend_from_slice(self.line.as_slice())?;
         }
         Ok(None)
     }

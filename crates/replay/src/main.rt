@@ -3,11 +3,12 @@
 
 mod call;
 mod command;
+mod failure;
+mod layered;
 mod lines;
-mod log;
-mod logcall;
 mod plan;
-mod raw;
+mod sample;
+mod session;
 mod stack;
 mod tickets;
 
@@ -16,6 +17,7 @@ use command::Command;
 use lines::Lines;
 use stack::Stack;
 use std::io;
+use std::ops::ControlFlow;
 
 fn main(rt: HostRuntime) -> io::Result<()> {
     let mut lines = Lines::new(rt);
@@ -24,26 +26,18 @@ fn main(rt: HostRuntime) -> io::Result<()> {
         let Some(standing) = stack else {
             return Ok(());
         };
-        stack = standing.answer(&mut lines)?;
+        lines.print(Answer::Ready)?;
+        stack = standing.answer_lines(&mut lines)?;
     }
     Ok(())
 }
 
 // Answers lines until a stack is accepted, or the input ends.
 fn first_stack(lines: &mut Lines) -> io::Result<Option<Stack>> {
-    for _ in 0..u64::MAX {
-        if !lines.advance()? {
-            break;
-        }
-        let answer = match Command::parse(lines.text()) {
-            None => Answer::NotUnderstood(lines.number()),
-            Some(Command::Build(plan)) => match Stack::build(plan) {
-                Ok(stack) => return stack.accepted(lines),
-                Err(fault) => Answer::Refused(fault),
-            },
-            Some(_) => Answer::NoClock,
-        };
-        lines.print(answer)?;
-    }
-    Ok(None)
+    lines.answer_each(|_, command| {
+        Ok(match command {
+            Command::Build(plan) => ControlFlow::Break(Stack::try_from(plan)?),
+            _ => ControlFlow::Continue(Answer::NoClock),
+        })
+    })
 }

@@ -1,6 +1,7 @@
 // A stack of layers over a device, as a line asks for it.
+use crate::sample::sample;
 use down::{Count, DownCounter};
-use fault::{Cause, Fault};
+use fault::Fault;
 use offset::Shift;
 use rate::Ratio;
 use up::{UpCounter, Word};
@@ -11,15 +12,8 @@ use widening::Bits;
 pub struct Plan {
     pub device: Device,
     pub tag: u8,
-    pub layers: Layers,
-}
-
-// The layers above a device, the lowest first.
-#[derive(Clone, Copy)]
-pub struct Layers {
-    pub low: Layer,
-    pub middle: Layer,
-    pub high: Layer,
+    // those above the device, the lowest first
+    pub layers: [Option<Layer>; 3],
 }
 
 #[derive(Clone, Copy)]
@@ -30,40 +24,24 @@ pub enum Device {
 
 #[derive(Clone, Copy)]
 pub enum Layer {
-    Absent,
     Widen { bits: u64 },
     Rate { gains: u64, ticks: u64 },
     Offset { by: u64 },
 }
 
+// What a layer is made with.
 #[derive(Clone, Copy)]
 pub enum Setting {
-    Absent,
     Widen(Bits),
     Rate(Ratio),
     Offset(Shift),
 }
 
-#[derive(Clone, Copy)]
-pub struct Settings {
-    pub low: Setting,
-    pub middle: Setting,
-    pub high: Setting,
-}
+impl TryFrom<Layer> for Setting {
+    type Error = Fault;
 
-impl Layers {
-    pub fn settings(self) -> Result<Settings, Fault> {
-        let low = self.low.setting()?;
-        let middle = self.middle.setting()?;
-        let high = self.high.setting()?;
-        Ok(Settings { low, middle, high })
-    }
-}
-
-impl Layer {
-    pub fn setting(self) -> Result<Setting, Fault> {
-        Ok(match self {
-            Layer::Absent => Setting::Absent,
+    fn try_from(layer: Layer) -> Result<Setting, Fault> {
+        Ok(match layer {
             Layer::Widen { bits } => Setting::Widen(Bits::new(narrow(bits))?),
             Layer::Rate { gains, ticks } => Setting::Rate(Ratio::new(gains, ticks)?),
             Layer::Offset { by } => Setting::Offset(Shift::new(by)?),
@@ -73,13 +51,9 @@ impl Layer {
 
 // The width is judged before the first sample, also where that has more bits than a register.
 pub fn up(width: u64, first: u64, tag: u8) -> Result<UpCounter, Fault> {
-    match u32::try_from(first) {
-        Ok(first) => UpCounter::new(narrow(width), Word(first), tag),
-        Err(_) => {
-            let _ = UpCounter::new(narrow(width), Word(0), tag)?;
-            Err(Fault::in_device(Cause::StraySample, tag))
-        }
-    }
+    let width = narrow(width);
+    let _ = UpCounter::new(width, Word(0), tag)?;
+    UpCounter::new(width, sample(first, tag)?, tag)
 }
 
 // No reload reaches the largest count, so a first sample of more bits is refused as that one is.

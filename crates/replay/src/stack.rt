@@ -1,28 +1,30 @@
-// The lines that are answered by one stack: a device under up to three layers, each kind of stack a type of its own.
+// The lines that are answered by one stack: a device under up to three layers.
 use crate::call::Call;
 use crate::command::Command;
+use crate::failure::Failure;
+use crate::layered::Layered;
 use crate::lines::Lines;
-use crate::plan::{Device, Plan, Setting, Settings};
-use crate::raw::Raw;
-use crate::{call, log, plan};
+use crate::plan::{Device, Plan, Setting};
+use crate::sample::sample;
+use crate::session::Session;
+use crate::{call, plan};
 use answers::Answer;
 use clock::alarm::Alarm;
 use down::DownCounter;
-use fault::{Cause, Fault};
+use fault::Fault;
 use logger::logger::Logger;
-use offset::Offset;
-use rate::Rate;
 use slots::moment::Moment;
 use std::io;
+use std::num::TryFromIntError;
+use std::ops::ControlFlow;
 use up::UpCounter;
-use widening::Widening;
 
 // A stack that was accepted: its device, and the settings of its layers.
 #[derive(Drop)]
 pub struct Stack {
     counter: Counter,
     tag: u8,
-    settings: Settings,
+    settings: [Option<Setting>; 3],
 }
 
 #[derive(Drop)]
@@ -31,139 +33,98 @@ pub enum Counter {
     Down(DownCounter),
 }
 
-impl Stack {
-    // Refused at the first word that is: the device's before those of the layers.
-    pub fn build(plan: Plan) -> Result<Stack, Fault> {
-        let counter = Counter::build(plan.device, plan.tag)?;
-        let settings = plan.layers.settings()?;
+// Refused at the first word that is: the device's before those of the layers.
+impl TryFrom<Plan> for Stack {
+    type Error = Fault;
+
+    fn try_from(plan: Plan) -> Result<Stack, Fault> {
+        let counter = match plan.device {
+            Device::Up { width, first } => Counter::Up(plan::up(width, first, plan.tag)?),
+            Device::Down { reload, first } => Counter::Down(plan::down(reload, first, plan.tag)?),
+        };
+        let settings = plan
+            .layers
+            .try_map(|layer| layer.map(Setting::try_from).transpose())?;
         Ok(Stack {
             counter,
             tag: plan.tag,
             settings,
         })
     }
+}
 
-    pub fn accepted(self, lines: &Lines) -> io::Result<Option<Stack>> {
-        lines.print(Answer::Ready)?;
-        Ok(Some(self))
-    }
-
+impl Stack {
     // Answers lines until another stack is accepted, or the input ends.
-    pub fn answer(self, lines: &mut Lines) -> io::Result<Option<Stack>> {
+    pub fn answer_lines(self, lines: &mut Lines) -> io::Result<Option<Stack>> {
         let Stack {
             counter,
             tag,
             settings,
         } = self;
         match counter {
-            Counter::Up(up) => with_low(up, tag, settings, lines),
-            Counter::Down(down) => with_low(down, tag, settings, lines),
+            Counter::Up(up) => {
+                let alarm = layered(up, settings);
+                Standing { alarm, tag }.answer_lines(lines)
+            }
+            Counter::Down(down) => {
+                let alarm = layered(down, settings);
+                Standing { alarm, tag }.answer_lines(lines)
+            }
         }
     }
 }
 
-impl Counter {
-    fn build(device: Device, tag: u8) -> Result<Counter, Fault> {
-        match device {
-            Device::Up { width, first } => Ok(Counter::Up(plan::up(width, first, tag)?)),
-            Device::Down { reload, first } => Ok(Counter::Down(plan::down(reload, first, tag)?)),
-        }
-    }
+// A device under its layers, the lowest first.
+fn layered<A: Alarm>(device: A, settings: [Option<Setting>; 3]) -> Layered<Layered<Layered<A>>> {
+    let [low, middle, high] = settings;
+    Layered::new(Layered::new(Layered::new(device, low), middle), high)
 }
 
-// Goes on with the alarm under one more layer, or with none where the setting is absent.
-macro_rules! layered {
-    ($next:ident, $alarm:ident, $setting:expr, $($more:expr),+) => {
-        match $setting {
-            Setting::Absent => $next($alarm, $($more),+),
-            Setting::Widen(bits) => $next(Widening::new($alarm, bits), $($more),+),
-            Setting::Rate(ratio) => $next(Rate::new($alarm, ratio), $($more),+),
-            Setting::Offset(shift) => $next(Offset::new($alarm, shift), $($more),+),
-        }
-    };
-}
-
-fn with_low<X: Raw, A: Alarm<Sample = X> + Drop>(
+// The alarm that stands, and the tag of its device.
+#[derive(Drop)]
+struct Standing<A: Alarm> {
     alarm: A,
     tag: u8,
-    settings: Settings,
-    lines: &mut Lines,
-) -> io::Result<Option<Stack>> {
-    layered!(with_middle, alarm, settings.low, tag, settings, lines)
 }
 
-fn with_middle<X: Raw, A: Alarm<Sample = X> + Drop>(
-    alarm: A,
-    tag: u8,
-    settings: Settings,
-    lines: &mut Lines,
-) -> io::Result<Option<Stack>> {
-    layered!(with_high, alarm, settings.middle, tag, settings.high, lines)
+// What ends the lines of a stack: another one, or a logger of this number and start over it.
+#[derive(Drop)]
+enum Turn {
+    Stack(Stack),
+    Logger(u16, Moment),
 }
 
-fn with_high<X: Raw, A: Alarm<Sample = X> + Drop>(
-    alarm: A,
-    tag: u8,
-    high: Setting,
-    lines: &mut Lines,
-) -> io::Result<Option<Stack>> {
-    layered!(answer_lines, alarm, high, tag, lines)
-}
-
-// A refused stack leaves the one that stands.
-fn answer_lines<X: Raw, A: Alarm<Sample = X> + Drop>(
-    mut alarm: A,
-    tag: u8,
-    lines: &mut Lines,
-) -> io::Result<Option<Stack>> {
-    for _ in 0..u64::MAX {
-        if !lines.advance()? {
-            break;
+impl<A: Alarm + Drop> Standing<A>
+where
+    A::Sample: TryFrom<u64, Error = TryFromIntError>,
+{
+    fn answer_lines(mut self, lines: &mut Lines) -> io::Result<Option<Stack>> {
+        match lines.answer_each(|_, command| self.answer(command))? {
+            None => Ok(None),
+            Some(Turn::Stack(stack)) => Ok(Some(stack)),
+            Some(Turn::Logger(number, start)) => {
+                lines.print(Answer::LoggerReady)?;
+                let logger = Logger::new(self.alarm, number, start);
+                Session::new(logger, self.tag, lines.heap()).answer_lines(lines)
+            }
         }
-        let answer = match Command::parse(lines.text()) {
-            Some(Command::Ask(call)) => ask(&mut alarm, tag, call),
-            Some(Command::Logger { number, start }) => match Moment::new(start) {
-                Ok(start) => return with_logger(Logger::new(alarm, number, start), tag, lines),
-                Err(fault) => Answer::Refused(fault),
-            },
-            Some(Command::Build(plan)) => match Stack::build(plan) {
-                Ok(stack) => return stack.accepted(lines),
-                Err(fault) => Answer::Refused(fault),
-            },
-            _ => Answer::NotUnderstood(lines.number()),
-        };
-        lines.print(answer)?;
     }
-    Ok(None)
-}
 
-fn with_logger<X: Raw, A: Alarm<Sample = X> + Drop>(
-    logger: Logger<A>,
-    tag: u8,
-    lines: &mut Lines,
-) -> io::Result<Option<Stack>> {
-    lines.print(Answer::LoggerReady)?;
-    log::answer_lines(logger, tag, lines)
-}
-
-// A sample with more bits than a register is one that no hardware shows.
-fn ask<X: Raw, A: Alarm<Sample = X>>(alarm: &mut A, tag: u8, call: Call<u64>) -> Answer {
-    match sampled(call) {
-        Some(call) => call::ask(alarm, call),
-        None => Answer::Refused(Fault::in_device(Cause::StraySample, tag)),
+    // A refused stack leaves the one that stands.
+    fn answer(&mut self, command: Command) -> Result<ControlFlow<Turn, Answer>, Failure> {
+        Ok(match command {
+            Command::Ask(call) => ControlFlow::Continue(self.ask(call)?),
+            Command::Logger { number, start } => {
+                ControlFlow::Break(Turn::Logger(number, Moment::new(start)?))
+            }
+            Command::Build(plan) => ControlFlow::Break(Turn::Stack(Stack::try_from(plan)?)),
+            Command::Log(_) | Command::Load => return Err(Failure::NotUnderstood),
+        })
     }
-}
 
-// The call with its sample as the device has it.
-fn sampled<X: Raw>(call: Call<u64>) -> Option<Call<X>> {
-    Some(match call {
-        Call::Width => Call::Width,
-        Call::Reach => Call::Reach,
-        Call::Reading => Call::Reading,
-        Call::Take(sample) => Call::Take(X::from_number(sample)?),
-        Call::Set { reference, delay } => Call::Set { reference, delay },
-        Call::Stop => Call::Stop,
-        Call::Claim => Call::Claim,
-        Call::Hold => Call::Hold,
-    })
+    fn ask(&mut self, call: Call<u64>) -> Result<Answer, Fault> {
+        let tag = self.tag;
+        let call = call.try_map(|number| sample(number, tag))?;
+        call::ask(&mut self.alarm, call)
+    }
 }

@@ -1,0 +1,39 @@
+// Why a line is not answered by what was asked.
+ghost use Rattle.replay.specs.Answers.{Fails};
+
+use answers::Answer;
+use fault::Fault;
+use std::io;
+
+#[derive(Drop)]
+pub enum Failure {
+    NotUnderstood,
+    Refused(Fault),
+    // the program cannot go on
+    Io(io::Error),
+}
+
+impl Failure {
+    // What the line of this number is answered all the same.
+    pub fn answer(self, line: u64) -> io::Result<Answer>
+        ensures { Fails self line result }
+    {
+        match self {
+            Failure::NotUnderstood => Ok(Answer::NotUnderstood(line)),
+            Failure::Refused(fault) => Ok(fault.into()),
+            Failure::Io(error) => Err(error),
+        }
+    }
+}
+
+impl From<Fault> for Failure {
+    fn from(fault: Fault) -> Failure {
+        Failure::Refused(fault)
+    }
+}
+
+impl From<io::Error> for Failure {
+    fn from(error: io::Error) -> Failure {
+        Failure::Io(error)
+    }
+}
