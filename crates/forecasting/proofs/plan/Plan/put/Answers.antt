@@ -1,7 +1,5 @@
-use Rattle.std.proofs.Common.{◌<◌, ◌≤◌, length, ap, ◌∙◌, arith}
-use Rattle.std.proofs.lemmas.Bool.{cond-true, lt-ltb}
-use Rattle.queue.specs.Order.{inserted}
-use Rattle.queue.specs.Queue.{has_place}
+use Rattle.std.proofs.Common.{◌≡◌, length, arith, rules}
+use Rattle.std.proofs.lemmas.Grind.{common_steps}
 use Rattle.queue.proofs.Queued.{length_queued}
 use Rattle.forecasting.specs.Pending.{pending_order}
 use Rattle.forecasting.proofs.plan.Plan.put.Goals as goal
@@ -9,10 +7,7 @@ use Rattle.forecasting.proofs.plan.Plan.put.Goals as goal
 pub returns : goal.returns
 returns c =
     let p = c.self.inside in
-    let within : p.queue.count ≤ length p.row = omega (arith, c.self.invariant.0, c.self.invariant.1) in
-    let held = length_queued p.queue p.row within in
-    let seen = ap length c.self.view_is in
-    let free : p.queue.count < length p.row = omega (arith, c.self.invariant.0, held, seen, c.requires) in
-    c.add.ensures.queued pending_order
-    ∙ cond-true (has_place p.queue p.row) _ _ (lt-ltb p.queue.count (length p.row) free)
-    ∙ ap (inserted pending_order c.args.pending) c.self.view_is
+    let places : length p.row ≡ 32 = search rules in
+    let held = length_queued p.queue p.row (omega (arith, c.self.invariant)) in
+    let now = c.add.ensures.queued pending_order in
+    grind (arith, common_steps)
