@@ -15,7 +15,7 @@ pub(crate) struct Plan {
 }
 
 impl Model for Plan {
-    ghost use Rattle.std.specs.Prelude.{◌≡◌, ◌≤◌, List, length};
+    ghost use Rattle.std.specs.Prelude.{◌≤◌, List};
     ghost use Rattle.queue.specs.Queue.{queued};
     ghost use Rattle.forecasting.specs.declared.pending.Pending.{Pending};
 
@@ -23,5 +23,5 @@ impl Model for Plan {
 
     ghost view = { λ p. queued p.queue p.row };
 
-    ghost invariant = { λ p. (length p.row ≡ 32) × (p.queue.count ≤ 32) };
+    ghost invariant = { λ p. p.queue.count ≤ 32 };
 }

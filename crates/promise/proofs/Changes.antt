@@ -194,10 +194,7 @@ module _ {X : Type 0} (j : ℕ) (l m : Log X) (sized : length l.slots ≡ 32) wh
       by false t =
           same refl refl (ap (λ (x : Log X). x.moment) a.after)
           (ap (λ (x : Log X). slot_of x j) a.after ∙ slot_set_other l j f.slot (fired (slot_of l f.slot)) (eqb-false f.slot j t))
-          (λ g i k. eqb-false f.slot j t (next_slot i ∙ k)) (λ i. cc)
-        where
-          next_slot : {f g : Firing} → ◌≡◌ {A = Event X} (next (Some f)) (next (Some g)) → f.slot ≡ g.slot
-          next_slot {f} {g} i = let s : f ≡ g = cc in ap (λ (x : Firing). x.slot) s
+          (λ g i k. eqb-false f.slot j t (cc)) (λ i. cc)
 
   pub changed : (e : Event X) → Step l e m → Changed e
   changed (serve d x r) a = changed_serve d x r a

@@ -39,9 +39,6 @@ pub firing_is : (f : Firing) (j u s : ℕ) (action : Action) → f.slot ≡ j �
     → f ≡ record { slot = j; due = u; at = s; action = action }
 firing_is f j u s action p q r t = λ i. record { slot = p i; due = q i; at = r i; action = t i }
 
-pub next_same : {X : Type 0} {f g : Firing} → ◌≡◌ {A = Event X} (next (Some f)) (next (Some g)) → f ≡ g
-next_same e = cc
-
 module _ {X : Type 0} {j : ℕ} {l : Log X} {es : List (Event X)} (c : Course j l es) where
   -- a next of the slot is a firing of the slot
   pub record Fired (q : ℕ) (f : Firing) : Type 0 where
@@ -58,7 +55,7 @@ module _ {X : Type 0} {j : ℕ} {l : Log X} {es : List (Event X)} (c : Course j 
       by (starts job first given p r s free slot kind st empty) = cc
       by (ended p r s slot other) = absurd (other f refl)
       by (fires g i co due s slot) =
-          let fg : g ≡ f = sym (next_same i) in
+          let fg : g ≡ f = cc in
           record {
             comes_now = co ∙ ap (λ (y : Firing). Some y) fg;
             due = subst (λ (y : Firing). y.due ≤ s_at c q) fg due;

@@ -18,7 +18,6 @@ use Rattle.promise.specs.Words.{when, listed, brought, Shared, moment_read, asks
 use Rattle.promise.proofs.Changes.{Change, same, moves, starts, ended, fires, Rests, changed, no_next, set_up_fits, slot_set_other, here, free_here}
 use Rattle.promise.proofs.Frames.{framed}
 use Rattle.promise.proofs.Standing.{rests_next, rests_free}
-use Rattle.promise.proofs.Completeness.{next_same}
 
 -- a moment read or a call of the slot with what was seen of it, or a report of the slot
 pub data Own : Type 0 where
@@ -277,10 +276,10 @@ module _ {X : Type 0} (j : ℕ) (l m : Log X) (sized : length l.slots ≡ 32) wh
   heard_next f (starts job first given p q s free slot kind st empty) b t = cc
   heard_next f (ended p q s slot other) b t = absurd (other f refl)
   heard_next f (fires g i co due s slot) true t =
-      let gf : g ≡ f = sym (next_same i) in
+      let gf : g ≡ f = cc in
       (record { firing = g; comes_now = co; due = due; is = ap (λ (y : Firing). reported y.due y.at y.action) (sym gf) }, s, slot)
   heard_next f (fires g i co due s slot) false t =
-      let fg : f ≡ g = next_same i in
+      let fg : f ≡ g = cc in
       absurd (eqb-false f.slot j t (ap (λ (y : Firing). y.slot) fg ∙ coming_slot l.moment j (slot_of l j) g co))
 
   pub heard : (e : Event X) → Step l e m → Heard e (own l.number j e)

@@ -10,14 +10,6 @@ use std::iter;
 // The slot of the job that both builds run.
 pub const SHARED_SLOT: usize = 3;
 
-// A job, its slot, and the delay from now on after which it is first due.
-#[derive(Clone, Copy)]
-pub struct Plan {
-    pub slot: usize,
-    pub delay: u64,
-    pub job: Job,
-}
-
 // What two builds with the same job are to tell alike.
 #[derive(PartialEq, Drop)]
 pub struct Told {
@@ -59,9 +51,13 @@ impl<A: Alarm> Build<A> {
         &self.told
     }
 
+    pub fn reports(&self) -> &[Firing] {
+        &self.told.reports
+    }
+
     // How many firings of other slots came.
-    pub fn others(&self) -> usize {
-        self.others.len()
+    pub fn others(&self) -> u64 {
+        self.others.len() as u64
     }
 
     pub fn longest(&self) -> u64 {
@@ -99,9 +95,10 @@ impl<A: Alarm> Build<A> {
         Ok(())
     }
 
-    pub fn set_up(&mut self, plan: Plan) -> Result<u64, Halt> {
+    // Sets a job up, first due a delay from now on.
+    pub fn set_up(&mut self, slot: usize, delay: u64, job: Job) -> Result<u64, Halt> {
         let logger = self.emptied()?;
-        Ok(logger.set_up(plan.slot, logger.moment(), plan.delay, plan.job)?)
+        Ok(logger.set_up(slot, logger.moment(), delay, job)?)
     }
 
     pub fn call_off(&mut self, slot: usize) -> Result<u64, Halt> {

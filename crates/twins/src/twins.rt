@@ -1,5 +1,5 @@
 // The two builds, and the table of what they report of the job.
-use crate::build::{Build, Plan, SHARED_SLOT};
+use crate::build::{Build, SHARED_SLOT};
 use crate::halt::Halt;
 use crate::report::Report;
 use crate::samples::{AFTER, BEFORE, DURING, STRAY, Samples};
@@ -14,6 +14,14 @@ use std::{fmt, io, iter};
 use up::Word;
 
 pub const START: u64 = 1000;
+
+// A job, its slot, and the delay after which it is first due.
+#[derive(Clone, Copy)]
+struct Plan {
+    slot: usize,
+    delay: u64,
+    job: Job,
+}
 
 // The job that both run.
 const SHARED: Plan = Plan {
@@ -92,11 +100,11 @@ impl<U: Alarm<Sample = Word>, D: Alarm<Sample = Count>> Twins<U, D> {
     // Sets the shared job up in both, between other jobs of each.
     pub fn begin(&mut self, rt: &HostRuntime) -> Result<(), Halt> {
         self.show_start(rt)?;
-        for plan in [MARKS, SHARED] {
-            self.up.set_up(plan)?;
+        for Plan { slot, delay, job } in [MARKS, SHARED] {
+            self.up.set_up(slot, delay, job)?;
         }
-        for plan in [SHARED, READS, MARK] {
-            self.down.set_up(plan)?;
+        for Plan { slot, delay, job } in [SHARED, READS, MARK] {
+            self.down.set_up(slot, delay, job)?;
         }
         self.down.hold()?;
         println!(rt; "moment | up | down")?;
@@ -125,8 +133,8 @@ impl<U: Alarm<Sample = Word>, D: Alarm<Sample = Count>> Twins<U, D> {
 
     // A line for each new report of the job, or one where there is none.
     fn show(&mut self, rt: &HostRuntime, moment: u64) -> io::Result<()> {
-        let ups = &self.up.told().reports;
-        let downs = &self.down.told().reports;
+        let ups = self.up.reports();
+        let downs = self.down.reports();
         let most = ups.len().max(downs.len());
         let up = ups.iter().copied().map(Some).chain(iter::repeat(None));
         let down = downs.iter().copied().map(Some).chain(iter::repeat(None));

@@ -1,5 +1,5 @@
 -- The promise, from the lemmas: the answer says that the two start alike, and then they keep it. Assumes nothing.
-use Rattle.std.proofs.Common.{◌≡◌, T, length, sym, ap, ◌∙◌, subst, true≢false, rules}
+use Rattle.std.proofs.Common.{◌≡◌, T, length, sym, ap, ◌∙◌, subst, rules}
 use Rattle.logger.specs.State.{view}
 use Rattle.promise.proofs.Alikeness.{each_free, promised}
 use Rattle.promise.proofs.start_alike.Goals as goal
@@ -16,7 +16,7 @@ returns-then-free-clause-promise g c t =
     let long' : length k.slots ≡ 32
     = elim c.if-all_free.branch [
       | then-all_free w ↦ sym (ap length w.slots-then-all_free.ensures.table) ∙ w.slots-then-all_free.ensures.size
-      | else-all_free w ↦ absurd (true≢false (sym c.if-free.true ∙ w.free-is ∙ w.if-all_free.false))
+      | else-all_free w ↦ cc (sym c.if-free.true ∙ w.free-is ∙ w.if-all_free.false)
     ] in
     promised l k (g.met.C.Clock.lawful c.args.a.now.alarm).counts (g.met.D.Clock.lawful c.args.b.now.alarm).counts
     long long' (subst T (returns-then-free-clause-answer g c) t)

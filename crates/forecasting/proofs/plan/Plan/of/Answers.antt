@@ -1,6 +1,5 @@
-use Rattle.std.proofs.Common.{◌+◌, ◌^◌, ◌<◌, length, [], map, get_or, take, sym, ap, ◌∙◌, arith}
-use Rattle.std.proofs.ByRecursion.{All-get_or}
-use Rattle.std.proofs.lemmas.List.{map_more, take_all, length-map, length-take-le}
+use Rattle.std.proofs.Common.{length, [], map, get_or, take, sym, ap, ◌∙◌, arith}
+use Rattle.std.proofs.lemmas.List.{map_more, length-map, length-take-le}
 use Rattle.queue.specs.Order.{inserted, in_order}
 use Rattle.queue.proofs.Ordered.{added_more, length_added}
 use Rattle.jobs.specs.declared.Kind.TheVariants.{Once}
@@ -12,9 +11,6 @@ use Rattle.forecasting.proofs.plan.Plan.of.Goals as goal
 -- what the code reads past a slice
 abbrev blank : Line
 blank = record { slot = 0; delay = 0; job = record { kind = Once; action = Read 0 } }
-
-pub of-requires : goal.of-requires
-of-requires c = All-get_or (λ (l : Line). c.args.start + l.delay < 2 ^ 64) c.args.lines.now c.loop-line.line-index _ c.loop-line-test.true c.requires.early
 
 pub put-requires : goal.put-requires
 put-requires c =
@@ -33,8 +29,3 @@ loop-line-preserved c =
     ∙ ap (λ p. inserted pending_compare p (in_order pending_compare (map f (take k xs)))) c.of.ensures
     ∙ sym (added_more pending_order [] (map f (take k xs)) (f (get_or xs k blank)))
     ∙ ap (in_order pending_compare) (sym (map_more f xs k blank c.loop-line-test.true))
-
-pub returns : goal.returns
-returns c =
-    c.loop-line.invariant
-    ∙ ap (λ ls. in_order pending_compare (map (pending c.args.start) ls)) (take_all c.loop-line.line-index c.args.lines.now c.loop-line-test.false)
