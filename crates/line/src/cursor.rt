@@ -13,7 +13,7 @@ use words::Words;
 #[derive(Drop)]
 pub(crate) struct Cursor<'a> {
     words: Words<'a>,
-    // The number of the line, from 1; no pair with a byte, since faults stand at two bytes of the line:
+    // the number of the line, from 1; no pair with a byte, since faults stand at two bytes of the line
     line: usize,
     // where the next word begins, and where the line ends
     byte: usize,
