@@ -1,5 +1,6 @@
 -- The lead, case by case, and what becomes of it the other way round. Assumes nothing.
-use Rattle.std.proofs.Common.{◌≡◌, ℕ, ◌+◌, ◌-◌, ◌%◌, ◌^◌, ◌<◌, ◌≤◌, Bool, true, false, ◌&&◌, ltb, leb, ◌⊎◌, ℤ, pos, negsuc, ◌-ℤ◌, neg_ℤ, Ok, Err, Result, sym, refl, ap, ◌∙◌, subst, inl, inr, ⊎_elim, mod-lt, arith, pow_pos, pow-add}
+use Rattle.std.proofs.Common.{◌≡◌, ℕ, ◌+◌, ◌-◌, ◌%◌, ◌^◌, ◌<◌, ◌≤◌, true, false, ◌&&◌, ltb, leb, ◌⊎◌, ℤ, pos, negsuc, ◌-ℤ◌, neg_ℤ, Ok, Err, Result, sym, ap, ◌∙◌, subst, inl, inr, ⊎_elim, mod-lt, arith, pow_pos, pow-add}
+use Rattle.std.proofs.Math.Bool.{and_comm}
 use Rattle.std.proofs.lemmas.Int.{ints}
 use Rattle.std.proofs.lemmas.Bool.{lt-ltb, le-ltb, le-leb, leb-true, ltb-true, and_from, and_parts, cond-true, cond-false, cases_Bool, cases_eq, cases_order, both_ways as both-tests}
 use Rattle.fault.specs.declared.Fault.{Fault}
@@ -50,12 +51,6 @@ at_turned half d e up down whole =
     ap turned (at_more half d h) ∙ ap (λ (x : ℤ). Ok x) z ∙ sym (at_less half e (omega arith))))
     (cases_order d half)
 
-and_turned : (x y : Bool) → (x && y) ≡ (y && x)
-and_turned true true = refl
-and_turned true false = refl
-and_turned false true = refl
-and_turned false false = refl
-
 module _ (w a b : ℕ) where
   lead_inside : 2 ≤ w → w ≤ 48 → a < 2 ^ w → b < 2 ^ w → lead_of w a b ≡ lead_at (2 ^ (w - 1)) (minus w a b)
   lead_inside low high ha hb =
@@ -94,7 +89,7 @@ pub lead_turned : (w a b : ℕ) → turned (lead_of w a b) ≡ lead_of w b a
 lead_turned w a b = by_limits w a b (λ r. turned r ≡ lead_of w b a) inside (λ out e f. sym (beyond e f)) (λ out e. sym (cond-false _ _ _ e))
   where
     beyond : (leb 2 w && leb w 48) ≡ true → (ltb a (2 ^ w) && ltb b (2 ^ w)) ≡ false → lead_of w b a ≡ Err lead_limits
-    beyond e f = cond-true _ _ _ e ∙ cond-false _ _ _ (and_turned (ltb b (2 ^ w)) (ltb a (2 ^ w)) ∙ f)
+    beyond e f = cond-true _ _ _ e ∙ cond-false _ _ _ (and_comm (ltb b (2 ^ w)) (ltb a (2 ^ w)) ∙ f)
 
     inside : 2 ≤ w → w ≤ 48 → a < 2 ^ w → b < 2 ^ w → turned (lead_at (2 ^ (w - 1)) (minus w a b)) ≡ lead_of w b a
     inside low high ha hb =

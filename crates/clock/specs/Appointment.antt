@@ -5,6 +5,8 @@ use Rattle.fault.specs.declared.Fault.{Fault}
 use Rattle.fault.specs.Table.{not_idle, alarm_limits}
 use Rattle.clock.specs.declared.appointment.Appointment.{Appointment}
 use Rattle.clock.specs.declared.appointment.Appointment.TheVariants.{Idle, Standing, Due}
+use Rattle.clock.specs.declared.appointment.Gain.{Gain}
+use Rattle.clock.specs.declared.appointment.Request.{Request}
 use Rattle.clock.specs.declared.appointment.Event.{Event}
 use Rattle.clock.specs.declared.appointment.Event.TheVariants.{Take, Set, Stop, Claim}
 use Rattle.clock.specs.declared.appointment.Reply.{Reply}
@@ -42,6 +44,10 @@ after_take w from gained Idle = Idle
 after_take w from gained (Standing left) = cond (nat_lt gained left) (Standing (left - gained)) (Due (plus w from left))
 after_take w from gained (Due point) = Due point
 
+-- the same by the numbers that a take brings along
+abbrev pub after_gain : Gain → Appointment → Appointment
+after_gain gain a = after_take gain.width.bits gain.from gain.gained a
+
 -- a new appointment, delay ticks after the reference: by its age it stands or is due already
 abbrev pub placed : ℕ → ℕ → ℕ → ℕ → Appointment
 placed w reading reference delay =
@@ -58,6 +64,10 @@ set_row w reading reference delay (Due point) = Err not_idle
 abbrev pub setting : ℕ → ℕ → ℕ → ℕ → Appointment → Result Appointment Fault
 setting w reading reference delay a =
     cond (nat_lt reference (2 ^ w) && nat_lt delay (2 ^ w)) (set_row w reading reference delay a) (Err alarm_limits)
+
+-- the same by the numbers that a set brings along
+abbrev pub requested : Request → Appointment → Result Appointment Fault
+requested request a = setting request.width.bits request.reading request.reference request.delay a
 
 -- the answer of a set, and the appointment that it leaves
 abbrev pub told : Result Appointment Fault → Result (Unit {0}) Fault
@@ -87,7 +97,7 @@ after_claim (Due point) = Idle
 
 -- the whole table: state and event give the next state and the reply
 abbrev pub table : Appointment → Event → Appointment × Reply
-table a (Take gain) = (after_take gain.width.bits gain.from gain.gained a, Passed)
+table a (Take gain) = (after_gain gain a, Passed)
 table a (Set request) =
     let row = set_row request.width.bits request.reading request.reference request.delay a in
     (left_by row a, Placed (told row))

@@ -1,6 +1,6 @@
 // The one appointment of an alarm, and the table of what each event makes of it.
 ghost use Rattle.std.specs.Prelude.{◌≡◌};
-ghost use Rattle.clock.specs.Appointment.{Sound, Possible, after_take, placed, setting, told, left_by, stops, claims, after_claim, table};
+ghost use Rattle.clock.specs.Appointment.{Sound, Possible, after_gain, placed, requested, told, left_by, stops, claims, after_claim, table};
 ghost use Rattle.clock.specs.declared.appointment.Appointment.TheVariants.{Idle, Standing};
 ghost use Rattle.clock.specs.declared.appointment.Event.TheVariants.{Take, Set};
 ghost use Rattle.clock.specs.declared.appointment.Reply.TheVariants.{Placed};
@@ -108,7 +108,7 @@ impl Appointment {
 
     // A standing appointment falls due where all that was left has passed.
     fn run_down(left: u64, gain: Gain) -> Appointment
-        ensures is { result ≡ after_take gain.width.bits gain.from gain.gained (Standing left) }
+        ensures is { result ≡ after_gain gain (Standing left) }
         ensures sound { Possible (Standing left) (Take gain) → Sound gain.width.bits result }
     {
         if gain.gained < left {
@@ -132,7 +132,7 @@ impl Appointment {
     }
 
     pub fn take(&mut self, gain: Gain)
-        ensures after { self.new ≡ after_take gain.width.bits gain.from gain.gained self.old }
+        ensures after { self.new ≡ after_gain gain self.old }
         ensures sound { Sound gain.width.bits self.old → Sound gain.width.bits self.new }
     {
         let _ = self.respond(Event::Take(gain));
@@ -140,8 +140,8 @@ impl Appointment {
 
     // Places an appointment where there is none: the two numbers are judged first.
     pub fn set(&mut self, request: Request) -> Result<(), Fault>
-        ensures answer { result ≡ told (setting request.width.bits request.reading request.reference request.delay self.old) }
-        ensures after { self.new ≡ left_by (setting request.width.bits request.reading request.reference request.delay self.old) self.old }
+        ensures answer { result ≡ told (requested request self.old) }
+        ensures after { self.new ≡ left_by (requested request self.old) self.old }
         ensures sound { Sound request.width.bits self.old → Sound request.width.bits self.new }
     {
         let turn = request.width.turn();

@@ -4,7 +4,7 @@
 // would not fit it counts as none. A layer never keeps such a one: what is kept comes from calls at the same width.
 // Each layer is a type of its own over it, since what it makes of a sample and of a reading is its own; the rest is here.
 ghost use Rattle.std.specs.Prelude.{◌≡◌, ◌^◌, ◌<◌, ◌≤◌};
-ghost use Rattle.clock.specs.Appointment.{Sound, held, left_in, after_take, setting, told, left_by, stops, claims, after_claim};
+ghost use Rattle.clock.specs.Appointment.{Sound, held, left_in, after_gain, requested, told, left_by, stops, claims, after_claim};
 ghost use Rattle.clock.specs.Kept.{within};
 ghost use Rattle.std.specs.Fn.{FnOnceReturnsAtMut};
 ghost use Rattle.clock.specs.declared.appointment.Appointment.TheVariants.{Idle};
@@ -55,14 +55,14 @@ impl Kept {
     }
 
     pub fn take(&mut self, gain: Gain)
-        ensures { within gain.width.bits self.new.appointment ≡ after_take gain.width.bits gain.from gain.gained (within gain.width.bits self.old.appointment) }
+        ensures { within gain.width.bits self.new.appointment ≡ after_gain gain (within gain.width.bits self.old.appointment) }
     {
         self.with(gain.width, |appointment| appointment.take(gain));
     }
 
     pub fn set(&mut self, request: Request) -> Result<(), Fault>
-        ensures answer { result ≡ told (setting request.width.bits request.reading request.reference request.delay (within request.width.bits self.old.appointment)) }
-        ensures after { within request.width.bits self.new.appointment ≡ left_by (setting request.width.bits request.reading request.reference request.delay (within request.width.bits self.old.appointment)) (within request.width.bits self.old.appointment) }
+        ensures answer { result ≡ told (requested request (within request.width.bits self.old.appointment)) }
+        ensures after { within request.width.bits self.new.appointment ≡ left_by (requested request (within request.width.bits self.old.appointment)) (within request.width.bits self.old.appointment) }
     {
         self.with(request.width, |appointment| appointment.set(request))
     }

@@ -1,15 +1,12 @@
 // Prints when the jobs of a script on standard input fire: its first firings from moment 0, or why it is refused.
 #![tactic(auto)]
 
-use listing::listing;
+use listing::{MOST_BYTES, PAGE, listing};
 use std::io;
 use std::io::{Read, Write};
 
 // One byte more than a script may have shows that it is too long, however long it is.
-const ENOUGH: u64 = 4097;
-
-// No listing is longer.
-const PAGE: usize = 1024;
+const ENOUGH: u64 = MOST_BYTES as u64 + 1;
 
 fn main(rt: HostRuntime) -> io::Result<()> {
     let mut script = Vec::new(rt.alloc());

@@ -12,9 +12,13 @@ use slots::moment::Moment;
 
 mod page;
 
-// The longest script that is listed, and the most lines of a listing.
-const MOST_BYTES: usize = 4096;
+// No listing is longer: 20 lines of 25 bytes at most, or a refusal.
+pub const PAGE: usize = 1024;
 
+// The longest script that is listed.
+pub const MOST_BYTES: usize = 4096;
+
+// The most lines of a listing.
 const MOST_LINES: usize = 20;
 
 // The first firings from moment 0.

@@ -3,12 +3,12 @@ ghost use Rattle.std.specs.Prelude.{◌≡◌, ◌+◌, ◌≤◌, [], ◌∷◌
 ghost use Rattle.fault.specs.Text.{place_text, where_text, fault_text};
 ghost use Rattle.listing.specs.Listing.{row_text, rows_text};
 
+use crate::PAGE;
 use arrayvec::ArrayString;
 use fault::{Fault, Part, Place};
 use itoa::{Buffer, Integer};
 
-// Longer than any listing: 20 lines of 25 bytes at most, or a refusal.
-pub(crate) type Page = ArrayString<1024>;
+pub(crate) type Page = ArrayString<PAGE>;
 
 // A line for each firing.
 pub(crate) fn rows(moments: &[u64], slots: &[u8]) -> Page

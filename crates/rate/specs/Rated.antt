@@ -1,11 +1,12 @@
 -- A clock at a rate keeps the laws of a clock, and moves as a clock moves. Assumes nothing.
 use Rattle.std.specs.Prelude.{◌≡◌, ℕ, zero, suc, ◌+◌, ◌-◌, ◌*◌, ◌/◌, ◌%◌, ◌^◌, ◌<◌, ◌≤◌, ◌∷◌, nat_le}
 use Rattle.std.specs.Int.{div_ceil}
-use Rattle.std.proofs.Common.{sym, ap, ◌∙◌, ⊎_elim, mod-lt, mul-add, mul_comm, add-suc, add-zero, mul-zero, mul-le-mul_left, div-mul-le_self, add-one, arith, pow_pos}
+use Rattle.std.proofs.Common.{sym, ap, ◌∙◌, ⊎_elim, mod-lt, mul-add, add-mul, mul_comm, add-suc, add-zero, mul-zero, mul-le-mul_left, div-mul-le_self, add-one, arith, pow_pos}
 use Rattle.std.proofs.Math.Path.{fun_ext}
-use Rattle.std.proofs.Math.Nat.{mod-add-mod, mul-add-div, div-eq_of_lt, div-add-mod, div-le_of_le-mul, add-div_right}
-use Rattle.std.proofs.lemmas.Nat.{le-div}
-use Rattle.std.proofs.lemmas.Bool.{le-leb, lt-leb, cases_lt, cases_eq}
+use Rattle.std.proofs.Math.Nat.{mod-add-mod, mul-add-div, div-eq_of_lt, div-add-mod, add-div_right}
+use Rattle.std.proofs.lemmas.Grind.{div_ceil_times}
+use Rattle.std.proofs.lemmas.Nat.{le-div, mul-le}
+use Rattle.std.proofs.lemmas.Bool.{le-leb, lt-leb, cases_lt}
 use Rattle.clock.specs.Wrap.{plus}
 use Rattle.clock.specs.Meaning.{Meaning, Counts, Lawful, advanced}
 use Rattle.clock.specs.Hold.{first_from, wait_for}
@@ -33,22 +34,20 @@ leb_same a b c d to from =
 div_mono : (a b p : ℕ) → 0 < p → a ≤ b → a / p ≤ b / p
 div_mono a b p some low = le-div (a / p) b p some (omega (arith, div-mul-le_self a p))
 
--- a ceiling is at most y exactly when the product is enough
-ceiling_le : (a q y : ℕ) → 0 < q → a ≤ q * y → div_ceil a q ≤ y
-ceiling_le a q y some enough =
+-- a quotient rounded up is at most y exactly when the product is enough
+div_ceil_le : (a q y : ℕ) → 0 < q → a ≤ q * y → div_ceil a q ≤ y
+div_ceil_le a q y some enough =
     ⊎_elim
-    (λ (h : a / q < y). omega arith)
-    (λ (h : y ≤ a / q). omega (arith, div-le_of_le-mul q {m = a} {n = y} enough, div-add-mod a q, mul-le-mul_left q h))
-    (cases_lt (a / q) y)
+    (λ (h : y < div_ceil a q).
+    let more : (y + 1) * q ≤ div_ceil a q * q = mul-le (y + 1) q (div_ceil a q) q (omega arith) (omega arith) in
+    absurd (omega (arith, (div_ceil_times a q some).1, more, add-mul y 1 q, mul_comm q y)))
+    (λ (h : div_ceil a q ≤ y). h)
+    (cases_lt y (div_ceil a q))
 
-ceiling_enough : (a q y : ℕ) → 0 < q → div_ceil a q ≤ y → a ≤ q * y
-ceiling_enough a q y some high =
-    ⊎_elim
-    (λ (e : a % q ≡ 0). let le : a / q ≤ y = omega arith in omega (arith, div-add-mod a q, mul-le-mul_left q le))
-    (λ (e : a % q ≡ 0 → ⊥).
-    let le : a / q + 1 ≤ y = omega arith in
-    omega (arith, div-add-mod a q, mul-le-mul_left q le, mul-add q (a / q) 1, mod-lt a some))
-    (cases_eq (a % q) 0)
+div_ceil_enough : (a q y : ℕ) → 0 < q → div_ceil a q ≤ y → a ≤ q * y
+div_ceil_enough a q y some high =
+    let less : div_ceil a q * q ≤ y * q = mul-le (div_ceil a q) q y q high (omega arith) in
+    omega (arith, (div_ceil_times a q some).0, less, mul_comm q y)
 
 -- q/p is the rate, r the remainder
 module _ (q p r : ℕ) (some : 1 ≤ q) (slow : q ≤ p) (small : r < p) where
@@ -81,11 +80,11 @@ module _ (q p r : ℕ) (some : 1 ≤ q) (slow : q ≤ p) (small : r < p) where
     where
       to : left ≤ (r + q * y) / p → needed q p r left ≤ y
       to h =
-          ceiling_le (p * left - r) q y some
+          div_ceil_le (p * left - r) q y some
           (omega (arith, mul-le-mul_left p h, div-add-mod (r + q * y) p))
 
       from : needed q p r left ≤ y → left ≤ (r + q * y) / p
-      from h = le-div left (r + q * y) p (omega arith) (omega (arith, ceiling_enough (p * left - r) q y some h, mul_comm p left))
+      from h = le-div left (r + q * y) p (omega arith) (omega (arith, div_ceil_enough (p * left - r) q y some h, mul_comm p left))
 
   module _ {X : Type 0} (m : Meaning X) (law : Lawful m) (count : ℕ) where
     pub rate_lawful : Lawful (rate_meaning m q p r count)

@@ -1,6 +1,6 @@
 // What a line of the log asks for.
 use crate::call::Call;
-use crate::plan::{Device, Layer, Plan};
+use crate::plan::{Device, Layer, Plan, narrow};
 use jobs::{Action, Job, Kind};
 use words::{Words, number};
 
@@ -47,28 +47,27 @@ impl Command {
 }
 
 fn named(name: &[u8], words: &mut Words) -> Option<Command> {
-    if let Some(device) = device(name, words) {
-        return plan(device, words);
-    }
-    if let Some(call) = call(name, words) {
-        return Some(Command::Ask(call));
-    }
-    if let Some(call) = log_call(name, words) {
-        return Some(Command::Log(call));
-    }
-    match name {
-        b"logger" => logger(words),
-        b"load" => Some(Command::Load),
-        _ => None,
-    }
-}
-
-fn device(name: &[u8], words: &mut Words) -> Option<Device> {
-    match name {
-        b"up" => up(words),
-        b"down" => down(words),
-        _ => None,
-    }
+    Some(match name {
+        b"up" => Command::Build(plan(up(words)?, words)?),
+        b"down" => Command::Build(plan(down(words)?, words)?),
+        b"width" => Command::Ask(Call::Width),
+        b"reach" => Command::Ask(Call::Reach),
+        b"reading" => Command::Ask(Call::Reading),
+        b"take" => Command::Ask(Call::Take(number_of(words)?)),
+        b"set" => Command::Ask(set(words)?),
+        b"stop" => Command::Ask(Call::Stop),
+        b"claim" => Command::Ask(Call::Claim),
+        b"hold" => Command::Ask(Call::Hold),
+        b"logger" => logger(words)?,
+        b"serve" => Command::Log(LogCall::Serve(number_of(words)?)),
+        b"setup" => Command::Log(set_up(words)?),
+        b"errand" => Command::Log(errand(words)?),
+        b"settle" => Command::Log(LogCall::Settle { slot: slot(words)? }),
+        b"calloff" => Command::Log(LogCall::CallOff { slot: slot(words)? }),
+        b"next" => Command::Log(LogCall::Next),
+        b"load" => Command::Load,
+        _ => return None,
+    })
 }
 
 fn up(words: &mut Words) -> Option<Device> {
@@ -84,14 +83,14 @@ fn down(words: &mut Words) -> Option<Device> {
 }
 
 // The tag of a device, and the layers above it.
-fn plan(device: Device, words: &mut Words) -> Option<Command> {
+fn plan(device: Device, words: &mut Words) -> Option<Plan> {
     let tag = u8::try_from(number_of(words)?).ok()?;
     let layers = layers(words)?;
-    Some(Command::Build(Plan {
+    Some(Plan {
         device,
         tag,
         layers,
-    }))
+    })
 }
 
 // Up to three.
@@ -129,56 +128,16 @@ fn rate(words: &mut Words) -> Option<Layer> {
     Some(Layer::Rate { gains, ticks })
 }
 
-fn call(name: &[u8], words: &mut Words) -> Option<Call<u64>> {
-    match name {
-        b"take" => Some(Call::Take(number_of(words)?)),
-        b"set" => set(words),
-        _ => bare_call(name),
-    }
-}
-
 fn set(words: &mut Words) -> Option<Call<u64>> {
     let reference = number_of(words)?;
     let delay = number_of(words)?;
     Some(Call::Set { reference, delay })
 }
 
-// A call of one word.
-fn bare_call(name: &[u8]) -> Option<Call<u64>> {
-    match name {
-        b"width" => Some(Call::Width),
-        b"reach" => Some(Call::Reach),
-        b"reading" => Some(Call::Reading),
-        b"stop" => Some(Call::Stop),
-        b"claim" => Some(Call::Claim),
-        b"hold" => Some(Call::Hold),
-        _ => None,
-    }
-}
-
 fn logger(words: &mut Words) -> Option<Command> {
     let number = u16::try_from(number_of(words)?).ok()?;
     let start = number_of(words)?;
     Some(Command::Logger { number, start })
-}
-
-fn log_call(name: &[u8], words: &mut Words) -> Option<LogCall> {
-    match name {
-        b"serve" => Some(LogCall::Serve(number_of(words)?)),
-        b"setup" => set_up(words),
-        b"errand" => errand(words),
-        b"next" => Some(LogCall::Next),
-        _ => slot_call(name, words),
-    }
-}
-
-// A call with no more than a slot.
-fn slot_call(name: &[u8], words: &mut Words) -> Option<LogCall> {
-    match name {
-        b"settle" => Some(LogCall::Settle { slot: slot(words)? }),
-        b"calloff" => Some(LogCall::CallOff { slot: slot(words)? }),
-        _ => None,
-    }
 }
 
 fn set_up(words: &mut Words) -> Option<LogCall> {
@@ -217,9 +176,8 @@ fn kind(words: &mut Words) -> Option<Kind> {
     }
 }
 
-// A number too large for its type stays too large for its limits.
 fn burst(words: &mut Words) -> Option<Kind> {
-    let count = u32::try_from(number_of(words)?).unwrap_or(u32::MAX);
+    let count = narrow(number_of(words)?);
     let period = number_of(words)?;
     Some(Kind::Burst { count, period })
 }

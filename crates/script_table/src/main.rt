@@ -2,12 +2,9 @@
 // what is printed is that line, cut at 60 bytes, and then the script's listing.
 #![tactic(auto)]
 
-use listing::listing;
+use listing::{PAGE, listing};
 use std::io;
 use std::io::{BufRead, Write};
-
-// No listing is longer.
-const PAGE: usize = 1024;
 
 // How much is printed of a line.
 const CUT: usize = 60;

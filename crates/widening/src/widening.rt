@@ -78,6 +78,7 @@ impl<A: Alarm> Clock for Widening<A> {
     }
 
     fn reading(&self) -> u64 {
+        // By the method itself, since `Width::of(self)` from inside this impl would lead back to it.
         let width = Width { bits: self.width() };
         joined(
             width,
