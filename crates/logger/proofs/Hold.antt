@@ -1,6 +1,6 @@
 -- The law of hold: the distance that it waits for is the smallest of the standing slots. Assumes nothing.
 use Rattle.std.proofs.Common.{◌≡◌, ℕ, ◌<◌, Bool, true, false, cond, eqb, ◌⊎◌, Some, None, Option, sym, refl, subst, inl, inr, arith}
-use Rattle.std.proofs.lemmas.Bool.{eqb-true, eqb-false}
+use Rattle.std.proofs.lemmas.Grind.{common_steps}
 use Rattle.clock.specs.Hold.{wait_for, Waits}
 use Rattle.clock.proofs.Waiting.{waits}
 use Rattle.table.specs.Table.{nearest}
@@ -13,8 +13,8 @@ hold_law l = by (nearest l.moment l.slots) (answered l.moment l.slots)
   where
     wait : (left : ℕ) (b : Bool) → eqb left 0 ≡ b
         → ((left ≡ 0) × (cond b 0 (wait_for l.stack left) ≡ 0)) ⊎ ((0 < left) × Waits l.stack left (cond b 0 (wait_for l.stack left)))
-    wait left true t = inl (eqb-true left 0 t, refl)
-    wait left false t = let some : left ≡ 0 → ⊥ = eqb-false left 0 t in inr (omega arith, waits l.stack left)
+    wait left true t = grind (arith, common_steps)
+    wait left false t = grind (arith, common_steps, waits l.stack left)
 
     by : (o : Option ℕ) → Answer l.moment l.slots o → HoldLaw l (held_for l.stack o)
     by None a = inl (a, refl)

@@ -1,6 +1,7 @@
 -- The law of next: what it answers is due, and no standing slot is earlier, nor a lower one as early. Assumes nothing.
 use Rattle.std.proofs.Common.{◌≡◌, ℕ, ◌<◌, ◌≤◌, Bool, true, false, cond, leb, ◌⊎◌, get_or, Some, None, Option, sym, refl, ap, ◌∙◌, subst, inl, inr, arith}
 use Rattle.std.proofs.lemmas.Bool.{leb-true, leb-false, cases_order}
+use Rattle.std.proofs.lemmas.Grind.{common_steps}
 use Rattle.jobs.specs.declared.Slot.{Slot}
 use Rattle.jobs.specs.declared.Slot.TheVariants.{Free, Standing, Waiting}
 use Rattle.jobs.specs.declared.Firing.{Firing}
@@ -10,7 +11,7 @@ use Rattle.table.specs.Table.{soonest}
 use Rattle.table.proofs.Soonest.{never, Best, Answer, answered, coming_at}
 use Rattle.table.proofs.Least.{its_due, ready_is}
 use Rattle.logger.specs.State.{Log, slot_of}
-use Rattle.logger.specs.Calls.{if_due, next_answer, after_next, First, Quiet, NextLaw}
+use Rattle.logger.specs.Calls.{if_due, next_answer, First, Quiet, NextLaw}
 use Rattle.logger.specs.Within.{Reached}
 use Rattle.logger.specs.Choice.{Chosen}
 
@@ -68,9 +69,7 @@ module _ {X : Type 0} (l : Log X) where
 
 reached_from : (s j : ℕ) (slot : Slot) (f : Firing) → coming s j slot ≡ Some f → f.due ≤ s → Reached s slot
 reached_from s j Free f p h = tt
-reached_from s j (Standing due job errand) f p h =
-    let same : record { slot = j; due = due; at = s; action = job.action } ≡ f = cc in
-    omega (arith, ap (λ (x : Firing). x.due) same)
+reached_from s j (Standing due job errand) f p h = grind (arith, common_steps)
 reached_from s j (Waiting due) f p h = tt
 
 module _ {X : Type 0} (l : Log X) where
@@ -87,11 +86,7 @@ module _ {X : Type 0} (l : Log X) where
     where
       by : (b : Bool) → leb f.due l.moment ≡ b → next_answer l ≡ cond b (Some f) None
           → coming l.moment f.slot (slot_of l f.slot) ≡ Some f → f.slot ≡ best.place → Chosen l (cond b (Some f.slot) None)
-      by true t told stands place = record {
-        reached = reached_from l.moment f.slot (slot_of l f.slot) f stands (leb-true _ _ t);
-        answer = stands ∙ sym told;
-        after = sym (ap (after_next l) told);
-      }
+      by true t told stands place = grind (arith, common_steps, reached_from)
       by false t told stands place = told
 
   next_by : (o : Option Firing) → soonest l.moment 0 l.slots ≡ o → Answer l.moment 0 l.slots o → Chosen l (ready l.moment (its_due o))
