@@ -14,7 +14,7 @@ use Rattle.jobs.specs.declared.Kind.{Kind}
 use Rattle.jobs.specs.declared.Kind.TheVariants.{Once, Every, Burst}
 use Rattle.forecasting.specs.declared.pending.Pending.{Pending}
 use Rattle.forecasting.specs.Forecast.{Counts, FiresAt, Among, Ordered}
-use Rattle.forecasting.specs.Pending.{pending_order, again, put_back, fired_first, firings, goes_on, spacing}
+use Rattle.forecasting.specs.Pending.{pending_order, pending_compare, again, put_back, fired_first, firings, goes_on, spacing}
 use Rattle.forecasting.proofs.Earliness.{earlier_trans, earlier_reach, all_from_among}
 
 -- x is a firing of one of those that wait
@@ -39,8 +39,8 @@ abbrev pub Good : List Pending → Type 0
 Good [] = Unit {0}
 Good (p ∷ q) = Active p.kind × AllByRecursion (Apart p) q × Good q
 
-pub all_inserted : (P : Pending → Type 0) (x : Pending) (q : List Pending) → P x → AllByRecursion P q → AllByRecursion P (inserted pending_order x q)
-all_inserted P x q h hs = all_shuffled P (x ∷ q) (inserted pending_order x q) (shuffled_inserted pending_order x q) (h, hs)
+pub all_inserted : (P : Pending → Type 0) (x : Pending) (q : List Pending) → P x → AllByRecursion P q → AllByRecursion P (inserted pending_compare x q)
+all_inserted P x q h hs = all_shuffled P (x ∷ q) (inserted pending_compare x q) (shuffled_inserted pending_order x q) (h, hs)
 
 not_earlier : (x y : Due) → is_lt (due_compare x y) ≡ false → (x.slot ≡ y.slot → ⊥) → Earlier y x
 not_earlier x y e apart =
@@ -52,7 +52,7 @@ not_earlier x y e apart =
     no : Earlier x y → ⊥
     no b = true≢false (sym (less_from_earlier x y b) ∙ e)
 
-pub good_inserted : (x : Pending) (q : List Pending) → Active x.kind → AllByRecursion (OffSlot x) q → Good q → Good (inserted pending_order x q)
+pub good_inserted : (x : Pending) (q : List Pending) → Active x.kind → AllByRecursion (OffSlot x) q → Good q → Good (inserted pending_compare x q)
 good_inserted x [] a off g = (a, tt, tt)
 good_inserted x (y ∷ ys) a off g = at (is_lt (due_compare x.due y.due)) (earlier_from_less x.due y.due) (not_earlier x.due y.due) (good_inserted x ys a off.1 g.2)
   where
@@ -60,8 +60,8 @@ good_inserted x (y ∷ ys) a off g = at (is_lt (due_compare x.due y.due)) (earli
     both [] b h o = tt
     both (z ∷ zs) b h o = ((earlier_trans x.due y.due z.due b h.0.0, o.0), both zs b h.1 o.1)
 
-    at : (t : Bool) → (t ≡ true → Earlier x.due y.due) → (t ≡ false → (x.due.slot ≡ y.due.slot → ⊥) → Earlier y.due x.due) → Good (inserted pending_order x ys)
-        → Good (cond t (x ∷ (y ∷ ys)) (y ∷ inserted pending_order x ys))
+    at : (t : Bool) → (t ≡ true → Earlier x.due y.due) → (t ≡ false → (x.due.slot ≡ y.due.slot → ⊥) → Earlier y.due x.due) → Good (inserted pending_compare x ys)
+        → Good (cond t (x ∷ (y ∷ ys)) (y ∷ inserted pending_compare x ys))
     at true yes' no' more = (a, ((yes' refl, off.0), both ys (yes' refl) g.1 off.1), g)
     at false yes' no' more = (g.0, all_inserted (Apart y) x ys (no' refl off.0, λ e. off.0 (sym e)) g.1, more)
 
@@ -71,23 +71,23 @@ good_inserted x (y ∷ ys) a off g = at (is_lt (due_compare x.due y.due)) (earli
 abbrev Rests : Due → Kind → Due → Type 0
 Rests d k y = (y.slot ≡ d.slot) × ((j : ℕ) × Counts k (suc j) × (y.moment ≡ d.moment + suc j * spacing k))
 
-pends_inserted : (x : Pending) (q : List Pending) (y : Due) → Pends (inserted pending_order x q) y → FiresAt x.due.slot x.due.moment x.kind y ⊎ Pends q y
+pends_inserted : (x : Pending) (q : List Pending) (y : Due) → Pends (inserted pending_compare x q) y → FiresAt x.due.slot x.due.moment x.kind y ⊎ Pends q y
 pends_inserted x [] y h = h
 pends_inserted x (z ∷ zs) y h = at (is_lt (due_compare x.due z.due)) (pends_inserted x zs y) h
   where
-    at : (t : Bool) → (Pends (inserted pending_order x zs) y → FiresAt x.due.slot x.due.moment x.kind y ⊎ Pends zs y)
-        → Pends (cond t (x ∷ (z ∷ zs)) (z ∷ inserted pending_order x zs)) y → FiresAt x.due.slot x.due.moment x.kind y ⊎ (FiresAt z.due.slot z.due.moment z.kind y ⊎ Pends zs y)
+    at : (t : Bool) → (Pends (inserted pending_compare x zs) y → FiresAt x.due.slot x.due.moment x.kind y ⊎ Pends zs y)
+        → Pends (cond t (x ∷ (z ∷ zs)) (z ∷ inserted pending_compare x zs)) y → FiresAt x.due.slot x.due.moment x.kind y ⊎ (FiresAt z.due.slot z.due.moment z.kind y ⊎ Pends zs y)
     at true more h = h
     at false more (inl f) = inr (inl f)
     at false more (inr p) = ⊎_elim (λ f. inl f) (λ r. inr (inr r)) (more p)
 
-inserted_pends : (x : Pending) (q : List Pending) (y : Due) → FiresAt x.due.slot x.due.moment x.kind y ⊎ Pends q y → Pends (inserted pending_order x q) y
+inserted_pends : (x : Pending) (q : List Pending) (y : Due) → FiresAt x.due.slot x.due.moment x.kind y ⊎ Pends q y → Pends (inserted pending_compare x q) y
 inserted_pends x [] y h = h
 inserted_pends x (z ∷ zs) y h = at (is_lt (due_compare x.due z.due)) h (inserted_pends x zs y)
   where
     at : (t : Bool) → FiresAt x.due.slot x.due.moment x.kind y ⊎ (FiresAt z.due.slot z.due.moment z.kind y ⊎ Pends zs y)
-        → (FiresAt x.due.slot x.due.moment x.kind y ⊎ Pends zs y → Pends (inserted pending_order x zs) y)
-        → Pends (cond t (x ∷ (z ∷ zs)) (z ∷ inserted pending_order x zs)) y
+        → (FiresAt x.due.slot x.due.moment x.kind y ⊎ Pends zs y → Pends (inserted pending_compare x zs) y)
+        → Pends (cond t (x ∷ (z ∷ zs)) (z ∷ inserted pending_compare x zs)) y
     at true h more = h
     at false (inl f) more = inr (more (inl f))
     at false (inr (inl f)) more = inl f
@@ -208,20 +208,20 @@ length_firings (suc n) (p ∷ q) = let h = length_firings n (fired_first p q) in
 -- each of xs is put in beside slots that are not its own
 abbrev pub Fresh : List Pending → List Pending → Type 0
 Fresh q [] = Unit {0}
-Fresh q (x ∷ xs) = Active x.kind × AllByRecursion (OffSlot x) q × Fresh (inserted pending_order x q) xs
+Fresh q (x ∷ xs) = Active x.kind × AllByRecursion (OffSlot x) q × Fresh (inserted pending_compare x q) xs
 
-pub good_added : (q xs : List Pending) → Good q → Fresh q xs → Good (added pending_order q xs)
+pub good_added : (q xs : List Pending) → Good q → Fresh q xs → Good (added pending_compare q xs)
 good_added q [] g f = g
-good_added q (x ∷ xs) g f = good_added (inserted pending_order x q) xs (good_inserted x q f.0 f.1 g) f.2
+good_added q (x ∷ xs) g f = good_added (inserted pending_compare x q) xs (good_inserted x q f.0 f.1 g) f.2
 
-pub pends_added : (q xs : List Pending) (y : Due) → Pends (added pending_order q xs) y → Pends q y ⊎ Pends xs y
+pub pends_added : (q xs : List Pending) (y : Due) → Pends (added pending_compare q xs) y → Pends q y ⊎ Pends xs y
 pends_added q [] y h = inl h
 pends_added q (x ∷ xs) y h =
-    ⊎_elim (λ a. ⊎_elim (λ f. inr (inl f)) (λ r. inl r) (pends_inserted x q y a)) (λ b. inr (inr b)) (pends_added (inserted pending_order x q) xs y h)
+    ⊎_elim (λ a. ⊎_elim (λ f. inr (inl f)) (λ r. inl r) (pends_inserted x q y a)) (λ b. inr (inr b)) (pends_added (inserted pending_compare x q) xs y h)
 
-pub added_pends : (q xs : List Pending) (y : Due) → Pends q y ⊎ Pends xs y → Pends (added pending_order q xs) y
+pub added_pends : (q xs : List Pending) (y : Due) → Pends q y ⊎ Pends xs y → Pends (added pending_compare q xs) y
 added_pends q [] y (inl h) = h
 added_pends q [] y (inr h) = absurd h
-added_pends q (x ∷ xs) y (inl h) = added_pends (inserted pending_order x q) xs y (inl (inserted_pends x q y (inr h)))
-added_pends q (x ∷ xs) y (inr (inl f)) = added_pends (inserted pending_order x q) xs y (inl (inserted_pends x q y (inl f)))
-added_pends q (x ∷ xs) y (inr (inr h)) = added_pends (inserted pending_order x q) xs y (inr h)
+added_pends q (x ∷ xs) y (inl h) = added_pends (inserted pending_compare x q) xs y (inl (inserted_pends x q y (inr h)))
+added_pends q (x ∷ xs) y (inr (inl f)) = added_pends (inserted pending_compare x q) xs y (inl (inserted_pends x q y (inl f)))
+added_pends q (x ∷ xs) y (inr (inr h)) = added_pends (inserted pending_compare x q) xs y (inr h)

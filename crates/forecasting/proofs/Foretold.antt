@@ -13,7 +13,7 @@ use Rattle.jobs.specs.declared.Kind.TheVariants.{Once, Every, Burst}
 use Rattle.line.specs.declared.line.Line.{Line}
 use Rattle.forecasting.specs.declared.pending.Pending.{Pending}
 use Rattle.forecasting.specs.Forecast.{IsFiring, Among, Ordered, Fewer, Foretells, first_firings, ForecastLaw, all_free}
-use Rattle.forecasting.specs.Pending.{pending, pending_order, spacing, Calm}
+use Rattle.forecasting.specs.Pending.{pending, pending_compare, spacing, Calm}
 use Rattle.line.specs.Text.{Lawful}
 use Rattle.script.specs.Text.{Different}
 use Rattle.forecasting.proofs.Earliness.{earlier_trans, earlier_never, all_from_among, all_among, fits_in, ordered_push}
@@ -55,7 +55,7 @@ calm_lines free start (l ∷ ls) early h =
 abbrev Off : List Pending → Line → Type 0
 Off q l = AllByRecursion (λ (r : Pending). l.slot ≡ r.due.slot → ⊥) q
 
-off_more : (start : ℕ) (q : List Pending) (l : Line) (ls : List Line) → AllByRecursion (Off q) ls → AllByRecursion (λ m. m.slot ≡ l.slot → ⊥) ls → AllByRecursion (Off (inserted pending_order (pending start l) q)) ls
+off_more : (start : ℕ) (q : List Pending) (l : Line) (ls : List Line) → AllByRecursion (Off q) ls → AllByRecursion (λ m. m.slot ≡ l.slot → ⊥) ls → AllByRecursion (Off (inserted pending_compare (pending start l) q)) ls
 off_more start q l [] h d = tt
 off_more start q l (m ∷ ms) h d =
     (all_inserted (λ r. m.slot ≡ r.due.slot → ⊥) (pending start l) q d.0 h.0, off_more start q l ms h.1 d.1)
@@ -63,7 +63,7 @@ off_more start q l (m ∷ ms) h d =
 fresh_lines : (free : List Bool) (start : ℕ) (q : List Pending) (ls : List Line) → AllByRecursion (Lawful free) ls → AllByRecursion (Off q) ls → Different ls → Fresh q (map (pending start) ls)
 fresh_lines free start q [] h o d = tt
 fresh_lines free start q (l ∷ ls) h o d =
-    (active_kind l.job.kind (line_kind free l h.0), o.0, fresh_lines free start (inserted pending_order (pending start l) q) ls h.1 (off_more start q l ls o.1 d.0) d.1)
+    (active_kind l.job.kind (line_kind free l h.0), o.0, fresh_lines free start (inserted pending_compare (pending start l) q) ls h.1 (off_more start q l ls o.1 d.0) d.1)
 
 off_none : (ls : List Line) → AllByRecursion (Off []) ls
 off_none [] = tt
@@ -89,7 +89,7 @@ foretells free n start ls lawful different = record {
 }
   where
     q : List Pending
-    q = in_order pending_order (map (pending start) ls)
+    q = in_order pending_compare (map (pending start) ls)
 
     ds : List Due
     ds = first_firings n start ls

@@ -10,13 +10,13 @@ use Rattle.queue.proofs.Ordered.{shuffled_in_order}
 use Rattle.jobs.specs.declared.Kind.{Kind}
 use Rattle.jobs.specs.declared.Kind.TheVariants.{Once, Every, Burst}
 use Rattle.forecasting.specs.declared.pending.Pending.{Pending}
-use Rattle.forecasting.specs.Pending.{pending_order, again, put_back, fired_first, firings, first_due, after_first, spacing, goes_on, Calm}
+use Rattle.forecasting.specs.Pending.{pending_order, pending_compare, again, put_back, fired_first, firings, first_due, after_first, spacing, goes_on, Calm}
 use Rattle.forecasting.proofs.Firings.{all_inserted}
 
 -- ---- moments stay small
 
-pub all_in_order : (P : Pending → Type 0) (q : List Pending) → AllByRecursion P q → AllByRecursion P (in_order pending_order q)
-all_in_order P q h = all_shuffled P q (in_order pending_order q) (shuffled_in_order pending_order q) h
+pub all_in_order : (P : Pending → Type 0) (q : List Pending) → AllByRecursion P q → AllByRecursion P (in_order pending_compare q)
+all_in_order P q h = all_shuffled P q (in_order pending_compare q) (shuffled_in_order pending_order q) h
 
 pub calm_more : (b b' : ℕ) (q : List Pending) → b ≤ b' → AllByRecursion (Calm b) q → AllByRecursion (Calm b') q
 calm_more b b' q h all = All-weaker (Calm b) (Calm b') (λ p c. (omega (arith, c.0), c.1)) q all

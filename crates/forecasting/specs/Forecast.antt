@@ -10,7 +10,7 @@ use Rattle.jobs.specs.declared.Kind.{Kind}
 use Rattle.jobs.specs.declared.Kind.TheVariants.{Once, Every, Burst}
 use Rattle.line.specs.declared.line.Line.{Line}
 use Rattle.line.specs.Line.{◌>>=◌}
-use Rattle.forecasting.specs.Pending.{pending, pending_order, firings, spacing}
+use Rattle.forecasting.specs.Pending.{pending, pending_compare, firings, spacing}
 use Rattle.script.specs.Script.{script_of}
 
 -- the slots of an empty logger
@@ -19,7 +19,7 @@ all_free = replicate 32 true
 
 -- the first n firings of lines that are loaded at this moment
 abbrev pub first_firings : ℕ → ℕ → List Line → List Due
-first_firings n start ls = firings n (in_order pending_order (map (pending start) ls))
+first_firings n start ls = firings n (in_order pending_compare (map (pending start) ls))
 
 abbrev pub forecast_of : ℕ → ℕ → List ℕ → Result (List Due) Fault
 forecast_of n start text = do

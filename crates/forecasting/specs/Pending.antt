@@ -37,7 +37,7 @@ again due kind = option_map (goes_on due) (after_firing kind)
 
 abbrev pub put_back : Option Pending → List Pending → List Pending
 put_back None waiting = waiting
-put_back (Some p) waiting = inserted pending_order p waiting
+put_back (Some p) waiting = inserted pending_compare p waiting
 
 -- after the first of those that wait has fired
 abbrev pub fired_first : Pending → List Pending → List Pending

@@ -3,7 +3,7 @@ use Rattle.std.proofs.Common.{◌≡◌, true, Equal, arith}
 use Rattle.std.specs.Ordering.{is_lt}
 use Rattle.std.proofs.lemmas.Bool.Decides.{nat_tests}
 use Rattle.queue.specs.declared.dues.Due.{Due}
-use Rattle.queue.specs.Due.{due_compare, due_order, Earlier}
+use Rattle.queue.specs.Due.{due_compare, Earlier}
 use Rattle.queue.specs.Order.{Strict}
 
 module _ (x y : Due) where
@@ -22,5 +22,5 @@ moments x y h = grind (arith, nat_tests)
 slots : (x y : Due) → due_compare x y ≡ Equal → x.slot ≡ y.slot
 slots x y h = grind (arith, nat_tests)
 
-pub due_strict : Strict due_order
+pub due_strict : Strict due_compare
 due_strict x y h = same_due x y (moments x y h) (slots x y h)

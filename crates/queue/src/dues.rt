@@ -28,7 +28,7 @@ pub fn order_is_total() -> bool
     ensures derived { (x y : Due) → ⟦<Due as Ord>⟧.cmp x y ≡ due_compare x y }
     ensures total { IsTotalOrder due_compare }
     ensures orders { (x y : Due) (r : Ordering) → due_orders x y r → r ≡ due_compare x y }
-    ensures strict { Strict due_order }
+    ensures strict { Strict due_compare }
 {
     true
 }

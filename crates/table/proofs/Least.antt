@@ -27,10 +27,10 @@ abbrev front : Due → Option Due → Option Due
 front d None = Some d
 front d (Some e) = cond (is_lt (due_compare d e)) (Some d) (Some e)
 
-first_inserted : (d : Due) (ys : List Due) → first (inserted due_order d ys) ≡ front d (first ys)
+first_inserted : (d : Due) (ys : List Due) → first (inserted due_compare d ys) ≡ front d (first ys)
 first_inserted d [] = refl
 first_inserted d (y ∷ ys) =
-    elim (is_lt (due_compare d y)) as (λ b. first (cond b (d ∷ (y ∷ ys)) (y ∷ inserted due_order d ys)) ≡ cond b (Some d) (Some y))
+    elim (is_lt (due_compare d y)) as (λ b. first (cond b (d ∷ (y ∷ ys)) (y ∷ inserted due_compare d ys)) ≡ cond b (Some d) (Some y))
     [ true ↦ refl | false ↦ refl ]
 
 -- of two firings the first comes before a later slot's unless that is due earlier
@@ -44,14 +44,14 @@ front_is : (s j : ℕ) (f : Firing) (rest : List Slot) → f.slot ≡ j → (o :
 front_is s j f rest e None a = refl
 front_is s j f rest e (Some g) best = front_by f g (omega (arith, best.number)) (leb f.due g.due) refl
 
-first_due : (s j : ℕ) (slots : List Slot) → first (in_order due_order (standing_dues j slots)) ≡ its_due (soonest s j slots)
+first_due : (s j : ℕ) (slots : List Slot) → first (in_order due_compare (standing_dues j slots)) ≡ its_due (soonest s j slots)
 first_due s j [] = refl
 first_due s j (Free ∷ rest) = first_due s (suc j) rest
 first_due s j (Standing due job errand ∷ rest) =
     let d : Due = record { moment = due; slot = j } in
     let f : Firing = record { slot = j; due = due; at = s; action = job.action } in
     ap first (in_order_cons due_order due_strict d (standing_dues (suc j) rest))
-    ∙ first_inserted d (in_order due_order (standing_dues (suc j) rest))
+    ∙ first_inserted d (in_order due_compare (standing_dues (suc j) rest))
     ∙ ap (front d) (first_due s (suc j) rest)
     ∙ front_is s j f rest refl (soonest s (suc j) rest) (answered s (suc j) rest)
 first_due s j (Waiting due ∷ rest) = first_due s (suc j) rest

@@ -2,7 +2,7 @@
 use Rattle.std.proofs.Common.{◌≡◌, ℕ, suc, ◌+◌, ◌<◌, ◌≤◌, List, [], ◌∷◌, ◌++◌, length, get_or, take, drop, set, Some, None, Option, sym, refl, ap, ◌∙◌, add-zero, zero-add, arith}
 use Rattle.std.proofs.lemmas.List.{append_assoc, length-append, length-take-le, length-drop, set-get_or, set_split}
 use Rattle.queue.specs.declared.dues.Due.{Due}
-use Rattle.queue.specs.Due.{due_order}
+use Rattle.queue.specs.Due.{due_compare, due_order}
 use Rattle.queue.specs.Order.{in_order}
 use Rattle.queue.proofs.DueOrder.{due_strict}
 use Rattle.queue.proofs.Ordered.{length_added}
@@ -13,11 +13,11 @@ use Rattle.table.specs.Dues.{due_of, listed, standing_dues, planned, noted, forg
 
 -- ---- one record more or less
 
-put_in : (o : Option Due) (xs ys : List Due) → in_order due_order (xs ++ (listed o ++ ys)) ≡ noted o (in_order due_order (xs ++ ys))
+put_in : (o : Option Due) (xs ys : List Due) → in_order due_compare (xs ++ (listed o ++ ys)) ≡ noted o (in_order due_compare (xs ++ ys))
 put_in None xs ys = refl
 put_in (Some d) xs ys = in_order_middle due_order due_strict xs d ys
 
-take_out : (o : Option Due) (xs ys : List Due) → forgotten o (in_order due_order (xs ++ (listed o ++ ys))) ≡ in_order due_order (xs ++ ys)
+take_out : (o : Option Due) (xs ys : List Due) → forgotten o (in_order due_compare (xs ++ (listed o ++ ys))) ≡ in_order due_compare (xs ++ ys)
 take_out None xs ys = refl
 take_out (Some d) xs ys = without_in_order due_order due_strict xs d ys
 
@@ -48,7 +48,7 @@ module _ (slots : List Slot) (j : ℕ) where
 
   -- the records of all slots but j
   pub others : List Due
-  others = in_order due_order (before ++ after)
+  others = in_order due_compare (before ++ after)
 
   split_at : (x : Slot) → j < length slots → standing_dues 0 (set slots j x) ≡ before ++ (listed (due_of j x) ++ after)
   unfolding before after
@@ -60,14 +60,14 @@ module _ (slots : List Slot) (j : ℕ) where
 
   pub planned_set : (x : Slot) → j < length slots → planned (set slots j x) ≡ noted (due_of j x) others
   unfolding others
-  planned_set x in' = ap (in_order due_order) (split_at x in') ∙ put_in (due_of j x) before after
+  planned_set x in' = ap (in_order due_compare) (split_at x in') ∙ put_in (due_of j x) before after
 
   pub planned_less : j < length slots → forgotten (due_of j (get_or slots j Free)) (planned slots) ≡ others
   unfolding others
   planned_less in' =
       let old = get_or slots j Free in
       ap (λ l. forgotten (due_of j old) (planned l)) (sym (set-get_or slots j Free))
-      ∙ ap (λ l. forgotten (due_of j old) (in_order due_order l)) (split_at old in')
+      ∙ ap (λ l. forgotten (due_of j old) (in_order due_compare l)) (split_at old in')
       ∙ take_out (due_of j old) before after
 
   pub others_short : j < length slots → length slots ≤ 32 → length others < 32

@@ -2,7 +2,7 @@
 -- Assumes nothing.
 use Rattle.std.specs.Prelude.{ℕ, suc, cond, List, [], ◌∷◌, ◌++◌, Some, None, Option, nat_le}
 use Rattle.queue.specs.declared.dues.Due.{Due}
-use Rattle.queue.specs.Due.{due_order}
+use Rattle.queue.specs.Due.{due_compare}
 use Rattle.queue.specs.Row.{first}
 use Rattle.queue.specs.Order.{inserted, without, in_order}
 use Rattle.jobs.specs.declared.Slot.{Slot}
@@ -25,16 +25,16 @@ standing_dues j (slot ∷ slots) = listed (due_of j slot) ++ standing_dues (suc 
 
 -- the records of a whole table, the earliest first, the lower slot on a tie
 abbrev pub planned : List Slot → List Due
-planned slots = in_order due_order (standing_dues 0 slots)
+planned slots = in_order due_compare (standing_dues 0 slots)
 
 -- a record put in, and one taken out, where there is one
 abbrev pub noted : Option Due → List Due → List Due
 noted None dues = dues
-noted (Some d) dues = inserted due_order d dues
+noted (Some d) dues = inserted due_compare d dues
 
 abbrev pub forgotten : Option Due → List Due → List Due
 forgotten None dues = dues
-forgotten (Some d) dues = without due_order d dues
+forgotten (Some d) dues = without due_compare d dues
 
 -- the slot of a record that is due at moment s
 abbrev pub ready : ℕ → Option Due → Option ℕ

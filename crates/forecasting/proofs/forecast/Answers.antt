@@ -7,7 +7,7 @@ use Rattle.line.specs.Text.{Lawful}
 use Rattle.script.specs.Lines.{lines_of, read_as}
 use Rattle.script.specs.Script.{script_of}
 use Rattle.forecasting.specs.Forecast.{all_free}
-use Rattle.forecasting.specs.Pending.{pending, pending_order, Calm}
+use Rattle.forecasting.specs.Pending.{pending, pending_compare, Calm}
 use Rattle.forecasting.proofs.Foretold.{line_delay, calm_lines, forecast_law}
 use Rattle.forecasting.proofs.Rows.{all_in_order}
 use Rattle.forecasting.proofs.forecast.Goals as goal
@@ -17,11 +17,11 @@ use Rattle.forecasting.proofs.forecast.Goals.{After-of-plan}
 read_ok : (c : After-of-plan) → script_of all_free c.args.script.now ≡ Ok (lines_of c.in_ok-loaded.loaded)
 read_ok c = sym c.read.ensures.answer ∙ ap read_as c.in_ok-loaded.was
 
-plan_is : (c : After-of-plan) → c.of-plan.result ≡ in_order pending_order (map (pending c.args.start.ticks) (lines_of c.in_ok-loaded.loaded))
+plan_is : (c : After-of-plan) → c.of-plan.result ≡ in_order pending_compare (map (pending c.args.start.ticks) (lines_of c.in_ok-loaded.loaded))
 plan_is c =
     c.of-plan.ensures
-    ∙ ap (λ s. in_order pending_order (map (pending s) c.lines.result.now)) c.ticks.ensures
-    ∙ ap (λ ls. in_order pending_order (map (pending c.args.start.ticks) ls)) c.lines.ensures
+    ∙ ap (λ s. in_order pending_compare (map (pending s) c.lines.result.now)) c.ticks.ensures
+    ∙ ap (λ ls. in_order pending_compare (map (pending c.args.start.ticks) ls)) c.lines.ensures
 
 pub of-plan-requires-clause-early : goal.of-plan-requires-clause-early
 of-plan-requires-clause-early c =

@@ -3,7 +3,7 @@ ghost use Rattle.std.specs.Prelude.{◌≡◌, ◌+◌, ◌^◌, ◌<◌, ◌≤
 ghost use Rattle.std.specs.List.{AllByRecursion};
 ghost use Rattle.queue.specs.Order.{inserted, in_order};
 ghost use Rattle.queue.specs.Row.{first, later};
-ghost use Rattle.forecasting.specs.Pending.{pending, pending_order, first_due, after_first, Calm};
+ghost use Rattle.forecasting.specs.Pending.{pending, pending_compare, first_due, after_first, Calm};
 
 use super::Plan;
 use crate::pending::Pending;
@@ -27,7 +27,7 @@ impl Plan {
 
     fn put(&mut self, pending: Pending)
         requires { length self.old < 32 }
-        ensures { self.new ≡ inserted pending_order pending self.old }
+        ensures { self.new ≡ inserted pending_compare pending self.old }
     {
         // it is not refused: there is a place for each slot
         let _ = self.queue.add(&mut self.row, pending);
@@ -45,7 +45,7 @@ impl Plan {
     pub(crate) fn of(lines: &[Line], start: u64) -> Plan
         requires few { length lines.now ≤ 32 }
         requires early { AllByRecursion (λ l. start + l.delay < 2 ^ 64) lines.now }
-        ensures { result ≡ in_order pending_order (map (pending start) lines.now) }
+        ensures { result ≡ in_order pending_compare (map (pending start) lines.now) }
     {
         let mut plan = Plan::new();
         for line in lines {

@@ -5,7 +5,7 @@ use Rattle.queue.proofs.Ordered.{added_more, length_added}
 use Rattle.jobs.specs.declared.Kind.TheVariants.{Once}
 use Rattle.jobs.specs.declared.Action.TheVariants.{Read}
 use Rattle.line.specs.declared.line.Line.{Line}
-use Rattle.forecasting.specs.Pending.{pending, pending_order}
+use Rattle.forecasting.specs.Pending.{pending, pending_order, pending_compare}
 use Rattle.forecasting.proofs.plan.Plan.of.Goals as goal
 
 -- what the code reads past a slice
@@ -25,7 +25,7 @@ loop-line-preserved c =
     let k = c.loop-line.line-index in
     let f = pending c.args.start in
     c.put.ensures
-    ∙ ap (inserted pending_order c.of.result) c.loop-line.invariant
-    ∙ ap (λ p. inserted pending_order p (in_order pending_order (map f (take k xs)))) c.of.ensures
+    ∙ ap (inserted pending_compare c.of.result) c.loop-line.invariant
+    ∙ ap (λ p. inserted pending_compare p (in_order pending_compare (map f (take k xs)))) c.of.ensures
     ∙ sym (added_more pending_order [] (map f (take k xs)) (f (get_or xs k blank)))
-    ∙ ap (in_order pending_order) (sym (map_more f xs k blank c.loop-line-test.true))
+    ∙ ap (in_order pending_compare) (sym (map_more f xs k blank c.loop-line-test.true))
