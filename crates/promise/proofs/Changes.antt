@@ -1,9 +1,9 @@
 -- What a step of a logger is to one of its slots. Assumes nothing.
-use Rattle.std.proofs.Common.{◌≡◌, ℕ, ◌+◌, ◌<◌, ◌≤◌, Bool, true, false, cond, eqb, ltb, ◌⊎◌, length, set, Some, None, Ok, Err, Option, Result, sym, refl, ap, ◌∙◌, subst, inl, inr, arith}
-use Rattle.std.proofs.lemmas.List.{get_or-set_same, get_or-set_other, get_or_past, length-set}
-use Rattle.std.proofs.lemmas.Bool.{ltb-false, leb-true, eqb-true, eqb-false, and_parts, cases_lt}
+use Rattle.std.proofs.Common.{◌≡◌, ℕ, ◌+◌, ◌<◌, ◌≤◌, Bool, true, false, eqb, length, Some, None, Ok, Err, Option, Result, sym, refl, ap, ◌∙◌, subst, arith}
+use Rattle.std.proofs.lemmas.List.{get_or-set_same, get_or-set_other, get_or_past}
+use Rattle.std.proofs.lemmas.Bool.{eqb-true, eqb-false}
 use Rattle.fault.specs.declared.Fault.{Fault}
-use Rattle.fault.specs.Table.{no_slot, slot_taken, reference_ahead, slot_limits}
+use Rattle.std.proofs.lemmas.Grind.{common_steps}
 use Rattle.jobs.specs.declared.Slot.{Slot}
 use Rattle.jobs.specs.declared.Slot.TheVariants.{Free, Standing, Waiting}
 use Rattle.jobs.specs.declared.Job.{Job}
@@ -14,7 +14,7 @@ use Rattle.jobs.specs.declared.Firing.{Firing}
 use Rattle.logger.specs.declared.ticket.Ticket.{Ticket}
 use Rattle.jobs.specs.declared.Outcome.{Outcome}
 use Rattle.logger.specs.State.{Log, slot_of, with_slot}
-use Rattle.slots.specs.Limits.{kind_fits, job_fits}
+use Rattle.slots.specs.Limits.{kind_fits}
 use Rattle.jobs.specs.Jobs.{taken}
 use Rattle.slots.specs.Slots.{once_job, set_up_slot, coming, fired}
 use Rattle.logger.specs.Calls.{after_set_up, ticketed, NextLaw, First, Quiet}
@@ -62,27 +62,12 @@ not_taken (Waiting due) e = cc
 
 steady : (kind : Kind) → kind_fits kind ≡ true → Steady kind
 steady Once e = tt
-steady (Every period) e = leb-true 1 period (and_parts _ _ e).0
-steady (Burst count period) e =
-    (leb-true 1 count (and_parts _ _ (and_parts _ _ e).0).0, leb-true 1 period (and_parts _ _ (and_parts _ _ e).1).0)
+steady (Every period) e = grind (arith, common_steps)
+steady (Burst count period) e = grind (arith, common_steps)
 
 pub set_up_fits : (s j : ℕ) (slot : Slot) (reference delay : ℕ) (job : Job) (due : ℕ) → Ok due ≡ set_up_slot s j slot reference delay job
     → Fitting s j slot reference delay job due
-set_up_fits s j slot reference delay job due = one (ltb 31 j) refl (taken slot) refl (ltb s reference) (job_fits delay job) refl
-  where
-    one : (a : Bool) → ltb 31 j ≡ a → (b : Bool) → taken slot ≡ b → (c d : Bool) → job_fits delay job ≡ d
-        → Ok due ≡ cond a (Err (no_slot j)) (cond b (Err (slot_taken j)) (cond c (Err (reference_ahead j)) (cond d (Ok (reference + delay)) (Err (slot_limits j)))))
-        → Fitting s j slot reference delay job due
-    one true p b q c d r e = cc
-    one false p true q c d r e = cc
-    one false p false q true d r e = cc
-    one false p false q false false r e = cc
-    one false p false q false true r e = record {
-      low = omega (arith, ltb-false 31 j p);
-      free = not_taken slot q;
-      fits = steady job.kind (and_parts _ _ (and_parts _ _ r).1).0;
-      first = cc;
-    }
+set_up_fits s j slot reference delay job due e = grind (arith, common_steps, not_taken, steady)
 
 pub no_next : {X : Type 0} {e : Event X} {r : Option Firing} {C : Type 0} → is_next e ≡ false → e ≡ next r → C
 no_next {X} p q = cc (sym (ap (λ (x : Event X). is_next x) q) ∙ p)
@@ -102,17 +87,11 @@ module _ {X : Type 0} (j : ℕ) (l m : Log X) (sized : length l.slots ≡ 32) wh
       same p q (ap (λ (x : Log X). x.moment) after) (ap (λ (x : Log X). slot_of x j) after ∙ slot_set_other l j k slot other) (λ f i. no_next n i) (λ i. no_next n i)
 
   pub here : (k : ℕ) (slot : Slot) → k ≡ j → k < 32 → m ≡ with_slot l k slot → slot_of m j ≡ slot
-  here k slot kj low after =
-      let within : k < length l.slots = omega arith in
-      ap (λ (x : Log X). slot_of x j) after ∙ subst (λ n. slot_of (with_slot l k slot) n ≡ slot) kj (slot_set l k slot within)
+  here k slot kj low after = grind (arith, common_steps)
 
   -- a slot that is set free is free, also past the table
   pub free_here : (k : ℕ) → k ≡ j → m ≡ with_slot l k Free → slot_of m j ≡ Free
-  free_here k kj after = ap (λ (x : Log X). slot_of x j) after ∙ subst (λ n. slot_of (with_slot l k Free) n ≡ Free) kj (freed_at (cases_lt k (length l.slots)))
-    where
-      freed_at : (k < length l.slots) ⊎ (length l.slots ≤ k) → slot_of (with_slot l k Free) k ≡ Free
-      freed_at (inl h) = slot_set l k Free h
-      freed_at (inr h) = get_or_past (set l.slots k Free) k Free (omega (arith, length-set l.slots k Free))
+  free_here k kj after = grind (arith, common_steps, get_or_past)
 
   changed_serve : (d : ℕ) (x : X) (r : Result ℕ Fault) → Step l (serve d x r) m → Changed (serve d x r)
   changed_serve d x (Ok t) a =

@@ -1,6 +1,7 @@
 -- What one slot has still to report: the due moments that it promises, and what a firing leaves of them. Assumes nothing.
 use Rattle.std.proofs.Common.{◌≡◌, ℕ, zero, suc, ◌+◌, ◌-◌, ◌*◌, ◌<◌, ◌≤◌, Bool, true, false, cond, ltb, Some, None, sym, refl, ap, ◌∙◌, subst, arith}
-use Rattle.std.proofs.lemmas.Bool.{lt-ltb, ltb-true}
+use Rattle.std.proofs.lemmas.Bool.{lt-ltb}
+use Rattle.std.proofs.lemmas.Grind.{common_steps}
 use Rattle.jobs.specs.declared.Slot.{Slot}
 use Rattle.jobs.specs.declared.Slot.TheVariants.{Free, Standing, Waiting}
 use Rattle.jobs.specs.declared.Kind.{Kind}
@@ -113,11 +114,7 @@ fired_from (Waiting due) action u p = p
 again_steady : (kind : Kind) (due : ℕ) (action : Action) → Steady kind → SteadySlot (again due action kind)
 again_steady Once due action s = tt
 again_steady (Every period) due action s = s
-again_steady (Burst count period) due action s = go (ltb 1 count) refl
-  where
-    go : (b : Bool) → ltb 1 count ≡ b → SteadySlot (stand_on due action (cond b (Some (period, Burst (count - 1) period)) None))
-    go true t = (omega (arith, ltb-true 1 count t), s.1)
-    go false t = tt
+again_steady (Burst count period) due action s = grind (arith, common_steps)
 
 pub fired_steady : (slot : Slot) → SteadySlot slot → SteadySlot (fired slot)
 fired_steady Free s = tt
@@ -128,13 +125,8 @@ fired_steady (Waiting due) s = tt
 -- the next firing of a slot is due later than the one before
 again_later : (s j : ℕ) (kind : Kind) (due : ℕ) (action : Action) (g : Firing) → Steady kind → coming s j (again due action kind) ≡ Some g → due < g.due
 again_later s j Once due action g st e = cc
-again_later s j (Every period) due action g st e =
-    let same : due + period ≡ g.due = cc in omega arith
-again_later s j (Burst count period) due action g st e = go (ltb 1 count) e
-  where
-    go : (b : Bool) → coming s j (stand_on due action (cond b (Some (period, Burst (count - 1) period)) None)) ≡ Some g → due < g.due
-    go true e = let same : due + period ≡ g.due = cc in omega arith
-    go false e = cc
+again_later s j (Every period) due action g st e = grind (arith, common_steps)
+again_later s j (Burst count period) due action g st e = grind (arith, common_steps)
 
 pub fired_later : (s s' j : ℕ) (slot : Slot) (f g : Firing) → SteadySlot slot → coming s j slot ≡ Some f → coming s' j (fired slot) ≡ Some g → f.due < g.due
 fired_later s s' j Free f g st p q = cc

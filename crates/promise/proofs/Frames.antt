@@ -1,6 +1,6 @@
 -- What a step leaves of number, table size, moment and stack. Assumes nothing.
-use Rattle.std.proofs.Common.{◌≡◌, ℕ, ◌+◌, length, Some, None, Ok, Err, Option, Result, sym, refl, ap, ◌∙◌, arith}
-use Rattle.std.proofs.lemmas.List.{length-set}
+use Rattle.std.proofs.Common.{◌≡◌, ℕ, ◌+◌, length, Some, None, Ok, Err, Option, Result, refl, arith}
+use Rattle.std.proofs.lemmas.Grind.{common_steps}
 use Rattle.fault.specs.declared.Fault.{Fault}
 use Rattle.clock.specs.Meaning.{Meaning, advanced}
 use Rattle.jobs.specs.declared.Slot.{Slot}
@@ -32,26 +32,10 @@ pub record Frame {X : Type 0} (l : Log X) (e : Event X) (m : Log X) : Type 0 whe
 
 module _ {X : Type 0} (l : Log X) (e : Event X) (m : Log X) where
   frame_same : reading e ≡ None → m ≡ l → Frame l e m
-  frame_same none after = record {
-    number = ap (λ (x : Log X). x.number) after;
-    size = ap (λ (x : Log X). length x.slots) after;
-    moment = ap (λ (x : Log X). x.moment) after ∙ sym (ap (λ (r : Option Reading). moved l.moment r) none);
-    stack = ap (λ (x : Log X). x.stack) after ∙ sym (ap (λ (r : Option Reading). stack_by l.stack r) none);
-    gain =
-        ap (λ (x : Log X). x.moment) after
-        ∙ (let z : gained l.stack (reading e) ≡ 0 = ap (λ (r : Option Reading). gained l.stack r) none in omega arith);
-  }
+  frame_same none after = grind (arith, common_steps)
 
   frame_slot : (k : ℕ) (slot : Slot) → reading e ≡ None → m ≡ with_slot l k slot → Frame l e m
-  frame_slot k slot none after = record {
-    number = ap (λ (x : Log X). x.number) after;
-    size = ap (λ (x : Log X). length x.slots) after ∙ length-set l.slots k slot;
-    moment = ap (λ (x : Log X). x.moment) after ∙ sym (ap (λ (r : Option Reading). moved l.moment r) none);
-    stack = ap (λ (x : Log X). x.stack) after ∙ sym (ap (λ (r : Option Reading). stack_by l.stack r) none);
-    gain =
-        ap (λ (x : Log X). x.moment) after
-        ∙ (let z : gained l.stack (reading e) ≡ 0 = ap (λ (r : Option Reading). gained l.stack r) none in omega arith);
-  }
+  frame_slot k slot none after = grind (arith, common_steps)
 
   frame_set_up : (k : ℕ) (job : Job) (b : mathlib.Core.Bool.Bool) (r : Result ℕ Fault) → reading e ≡ None → m ≡ after_set_up l k job b r → Frame l e m
   frame_set_up k job b (Ok due) none after = frame_slot k (Standing due job b) none after
@@ -66,13 +50,7 @@ module _ {X : Type 0} (l : Log X) (e : Event X) (m : Log X) where
   frame_next (Some f) none after = frame_slot f.slot (fired (slot_of l f.slot)) none after
 
 frame_serve : {X : Type 0} (l m : Log X) (d : ℕ) (x : X) (r : Result ℕ Fault) → Step l (serve d x r) m → Frame l (serve d x r) m
-frame_serve {X} l m d x (Ok t) a = record {
-  number = ap (λ (x : Log X). x.number) a.after;
-  size = ap (λ (x : Log X). length x.slots) a.after;
-  moment = ap (λ (x : Log X). x.moment) a.after ∙ sym a.answer;
-  stack = ap (λ (x : Log X). x.stack) a.after;
-  gain = ap (λ (x : Log X). x.moment) a.after;
-}
+frame_serve {X} l m d x (Ok t) a = grind (arith, common_steps)
 frame_serve l m d x (Err f) a = frame_same l (serve d x (Err f)) m refl a.after
 
 pub framed : {X : Type 0} (l m : Log X) (e : Event X) → Step l e m → Frame l e m

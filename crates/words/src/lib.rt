@@ -18,10 +18,8 @@ pub fn number(word: &[u8]) -> Option<u64>
     }
     let mut n: u64 = 0;
     for b in word {
-        if !b.is_ascii_digit() {
-            return None;
-        }
-        n = n.saturating_mul(10).saturating_add(u64::from(*b - b'0'));
+        let digit = char::from(*b).to_digit(10)?;
+        n = n.saturating_mul(10).saturating_add(u64::from(digit));
     }
     Some(n)
 }
