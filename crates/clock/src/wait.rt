@@ -46,10 +46,9 @@ fn longest<A: Alarm>(alarm: &A) -> u64
     alarm.reach() - 1
 }
 
-// The hold of a clock that gains a tick with each true tick.
+// The hold of a clock, where it gains a tick with each true tick.
 pub fn steady_hold<C: Clock>(clock: &C, appointment: Appointment) -> u64
-    requires { (d : ℕ) → (C.Clock.meaning clock.now).measure d ≡ d }
-    ensures { result ≡ hold_of (C.Clock.meaning clock.now) appointment }
+    ensures { ((d : ℕ) → (C.Clock.meaning clock.now).measure d ≡ d) → result ≡ hold_of (C.Clock.meaning clock.now) appointment }
 {
     let longest = clock.reach() - 1;
     match appointment {

@@ -7,7 +7,7 @@ use std::marker::Model;
 mod calls;
 
 // The row has a place for each slot. Clauses see the jobs that stand in it, the next to fire first.
-// It is no generic struct with the table's agenda, since such a struct holds no array of a type parameter.
+// It is no generic struct with the table's agenda: all that the two share is a call of the queue in each method.
 #[derive(Drop)]
 pub(crate) struct Plan {
     queue: Queue,

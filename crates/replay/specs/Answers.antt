@@ -1,4 +1,4 @@
--- What the program answers to a call of an alarm: just what the alarm answered, and the alarm is as that call leaves it.
+-- What the program answers to a call of an alarm: just what the alarm answered, and the alarm is as that call leaves it; and what to a line that fails.
 -- Assumes nothing.
 use Rattle.std.specs.Prelude.{◌≡◌, ℕ, Bool, Ok, Err, Option, Result}
 use Rattle.fault.specs.declared.Fault.{Fault}

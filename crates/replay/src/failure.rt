@@ -1,5 +1,7 @@
 // Why a line is not answered by what was asked.
+ghost use Rattle.std.specs.Prelude.{◌≡◌};
 ghost use Rattle.replay.specs.Answers.{Fails};
+ghost use Rattle.replay.specs.declared.failure.Failure.TheVariants as fails;
 
 use answers::Answer;
 use fault::Fault;
@@ -27,12 +29,16 @@ impl Failure {
 }
 
 impl From<Fault> for Failure {
+    ghost from_gives = { λ f r. r ≡ fails.Refused f };
+
     fn from(fault: Fault) -> Failure {
         Failure::Refused(fault)
     }
 }
 
 impl From<io::Error> for Failure {
+    ghost from_gives = { λ e r. r ≡ fails.Io e };
+
     fn from(error: io::Error) -> Failure {
         Failure::Io(error)
     }

@@ -48,6 +48,7 @@ impl Lines {
         F: FnMut(&mut Lines, Command) -> Result<ControlFlow<B, Answer>, Failure>,
         requires { F.IsAlwaysCallable answer }
     {
+        // A count, since nothing measures how much input is left.
         for _ in 0..u64::MAX {
             let Some(line) = self.next_line()? else {
                 break;
@@ -70,6 +71,7 @@ impl Lines {
     // Reads lines up to one that is a single `.`, and gives them as one text; none where the input ends first.
     pub fn script(&mut self) -> io::Result<Option<Vec<u8>>> {
         let mut script = Vec::new(self.rt.alloc());
+        // A count, as in `answer_each`.
         for _ in 0..u64::MAX {
             match self.next_line()? {
                 None => break,

@@ -22,6 +22,7 @@ use std::ops::ControlFlow;
 fn main(rt: HostRuntime) -> io::Result<()> {
     let mut lines = Lines::new(rt);
     let mut stack = first_stack(&mut lines)?;
+    // A count, since nothing measures how much input is left.
     for _ in 0..u64::MAX {
         let Some(standing) = stack else {
             return Ok(());

@@ -25,6 +25,7 @@ impl Agenda {
         self.queue.least(&self.row)
     }
 
+    #[tactic(auto, using(queue::proofs::Queued::length_queued))]
     pub(crate) fn note(&mut self, due: Option<Due>)
         requires { length self.old < 32 }
         ensures { self.new ≡ noted due self.old }
