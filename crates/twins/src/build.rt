@@ -23,8 +23,8 @@ pub struct Told {
 pub struct Build<A: Alarm> {
     logger: Logger<A>,
     told: Told,
-    // the firings of other slots
-    others: Vec<Firing>,
+    // how many firings of other slots came
+    others: u64,
     // the longest wait that `hold` allowed
     longest: u64,
 }
@@ -38,7 +38,7 @@ impl<A: Alarm> Build<A> {
         Build {
             logger,
             told,
-            others: Vec::new(heap),
+            others: 0,
             longest: 0,
         }
     }
@@ -55,9 +55,8 @@ impl<A: Alarm> Build<A> {
         &self.told.reports
     }
 
-    // How many firings of other slots came.
     pub fn others(&self) -> u64 {
-        self.others.len() as u64
+        self.others
     }
 
     pub fn longest(&self) -> u64 {
@@ -70,7 +69,7 @@ impl<A: Alarm> Build<A> {
             if firing.slot == SHARED_SLOT {
                 self.told.reports.push(firing)?;
             } else {
-                self.others.push(firing)?;
+                self.others = self.others.saturating_add(1);
             }
         }
         Ok(())
