@@ -53,6 +53,7 @@ pub enum LoggerAnswer {
     Loaded,
 }
 
+// By hand, since the clause `from_gives` says which value comes out; a derived one says nothing of it.
 impl From<AlarmAnswer> for Answer {
     ghost from_gives = { λ a r. r ≡ Alarm a };
 
@@ -142,7 +143,7 @@ impl fmt::Display for LoggerAnswer {
 
 // A bool as it is printed.
 #[derive(Clone, Copy)]
-struct YesNo(bool);
+pub struct YesNo(pub bool);
 
 impl fmt::Display for YesNo {
     ghost output = { λ y. Some (yes_no y.0) };

@@ -3,9 +3,10 @@ use crate::build::{Build, SHARED_SLOT};
 use crate::halt::Halt;
 use crate::report::Report;
 use crate::samples::{AFTER, BEFORE, DURING, STRAY, Samples};
+use answers::{Answer, LoggerAnswer, YesNo};
 use clock::alarm::Alarm;
 use down::Count;
-use jobs::{Action, Job, Kind, Outcome};
+use jobs::{Action, Job, Kind};
 use logger::logger::Logger;
 use promise::start_alike;
 use slots::moment::Moment;
@@ -73,11 +74,6 @@ pub struct Twins<U: Alarm, D: Alarm> {
     shown: usize,
 }
 
-// One word for a fact: a type with a Display of its own would say no more.
-fn yes(fact: bool) -> &'static str {
-    if fact { "yes" } else { "no" }
-}
-
 impl<U: Alarm<Sample = Word>, D: Alarm<Sample = Count>> Twins<U, D> {
     pub fn new(heap: Global, start: Moment, up: U, down: D) -> Twins<U, D> {
         Twins {
@@ -112,7 +108,7 @@ impl<U: Alarm<Sample = Word>, D: Alarm<Sample = Count>> Twins<U, D> {
     }
 
     fn show_start(&self, rt: &HostRuntime) -> io::Result<()> {
-        let alike = yes(start_alike(self.up.logger(), self.down.logger()));
+        let alike = YesNo(start_alike(self.up.logger(), self.down.logger()));
         println!(rt; "start {START}, alike {alike}")
     }
 
@@ -148,11 +144,12 @@ impl<U: Alarm<Sample = Word>, D: Alarm<Sample = Count>> Twins<U, D> {
 
     // The second build is shown a sample that its counter never shows.
     fn stray(&mut self, rt: &HostRuntime) -> Result<(), Halt> {
-        match self.down.serve(STRAY) {
-            Ok(moment) => println!(rt; "down: served {moment}")?,
-            Err(Halt::Call(fault)) => println!(rt; "down: {fault}")?,
+        let answer: Answer = match self.down.serve(STRAY) {
+            Ok(moment) => LoggerAnswer::Served(moment).into(),
+            Err(Halt::Call(fault)) => fault.into(),
             Err(halt) => return Err(halt),
-        }
+        };
+        println!(rt; "down: {answer}")?;
         Ok(())
     }
 
@@ -163,14 +160,15 @@ impl<U: Alarm<Sample = Word>, D: Alarm<Sample = Count>> Twins<U, D> {
         // before anything can fail, since a ticket cannot be let go
         let outcome = self.up.settle(ticket)?;
         shown?;
-        show_outcome(rt, outcome)?;
+        let answer = LoggerAnswer::Settled(outcome);
+        println!(rt; "up: {answer}")?;
         Ok(())
     }
 
     // The second build calls a job of its own off.
     fn call_off(&mut self, rt: &HostRuntime) -> Result<(), Halt> {
-        let due = self.down.call_off(READS.slot)?;
-        println!(rt; "down: called off {due}")?;
+        let answer = LoggerAnswer::CalledOff(self.down.call_off(READS.slot)?);
+        println!(rt; "down: {answer}")?;
         Ok(())
     }
 
@@ -186,7 +184,7 @@ impl<U: Alarm<Sample = Word>, D: Alarm<Sample = Count>> Twins<U, D> {
     fn show_totals(&self, rt: &HostRuntime) -> io::Result<()> {
         show_row(rt, "other firings", self.up.others(), self.down.others())?;
         show_row(rt, "longest hold", self.up.longest(), self.down.longest())?;
-        let agreed = yes(self.up.told() == self.down.told());
+        let agreed = YesNo(self.up.told() == self.down.told());
         println!(rt; "firings agreed: {agreed}")
     }
 }
@@ -198,10 +196,4 @@ fn show_row<H: fmt::Display + Copy, C: fmt::Display + Copy>(
     down: C,
 ) -> io::Result<()> {
     println!(rt; "{head} | {up} | {down}")
-}
-
-fn show_outcome(rt: &HostRuntime, outcome: Outcome) -> io::Result<()> {
-    let due = outcome.due;
-    let fired = yes(outcome.fired);
-    println!(rt; "up: settled {due} {fired}")
 }
