@@ -26,6 +26,7 @@ fn show(rt: &HostRuntime, mut line: Vec<u8>) -> io::Result<()> {
             *byte = b'\n';
         }
     }
+    // As in the program `forecast`: a crate for these lines would be longer than they are.
     let mut page = [0; PAGE];
     match listing(&line, &mut page) {
         Ok(length) => rt.stdout().write_all(&page[..length]),
