@@ -43,7 +43,6 @@ impl<A: Alarm> Logger<A> {
     }
 
     // Puts a slot into a state.
-    #[tactic(auto, using(crate::proofs::Fitting::fits_set))]
     fn put(&mut self, slot: usize, state: Slot)
         requires { slot_fits state ≡ true }
         ensures { view A.Clock.meaning self.new ≡ with_slot (view A.Clock.meaning self.old) slot state }
