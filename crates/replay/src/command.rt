@@ -70,6 +70,7 @@ fn named(name: &[u8], words: &mut Words) -> Option<Command> {
     })
 }
 
+// The readers of two numbers stand apart, since each gives the two their names.
 fn up(words: &mut Words) -> Option<Device> {
     let width = number_of(words)?;
     let first = number_of(words)?;
@@ -165,6 +166,7 @@ fn wanted_of(words: &mut Words) -> Option<Wanted> {
     })
 }
 
+// The words of a job are read here and in crate `line`, where each word has its place and its fault, and the delay comes last.
 fn kind(words: &mut Words) -> Option<Kind> {
     match words.next()? {
         b"once" => Some(Kind::Once),

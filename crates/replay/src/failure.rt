@@ -28,6 +28,7 @@ impl Failure {
     }
 }
 
+// By hand, since the clause `from_gives` says which value comes out; a derived one says nothing of it.
 impl From<Fault> for Failure {
     ghost from_gives = { λ f r. r ≡ fails.Refused f };
 

@@ -35,6 +35,7 @@ impl<A: Alarm> Layered<A> {
 }
 
 // What the layer answers, whichever it is.
+// A macro, since the four arms hold alarms of four types, which no one closure can take.
 macro_rules! by_layer {
     ($layered:expr, $alarm:ident => $answer:expr) => {
         match $layered {
