@@ -27,6 +27,7 @@ pub trait Clock {
     ghost lawful: { (x : Self) → Lawful (meaning x) };
 }
 
+// The clauses tell of clock and appointment side by side, since a clock has its meaning without an appointment.
 pub trait Alarm: Clock {
     ghost appointment: { Self → Appointment };
 

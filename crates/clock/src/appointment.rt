@@ -150,7 +150,7 @@ impl Appointment {
         }
         match self.respond(Event::Set(request)) {
             Reply::Placed(answer) => answer,
-            _ => Ok(()),
+            _ => unreachable!(),
         }
     }
 
@@ -161,7 +161,7 @@ impl Appointment {
     {
         match self.respond(Event::Stop) {
             Reply::Stopped(was) => was,
-            _ => false,
+            _ => unreachable!(),
         }
     }
 
@@ -172,7 +172,7 @@ impl Appointment {
     {
         match self.respond(Event::Claim) {
             Reply::Claimed(point) => point,
-            _ => None,
+            _ => unreachable!(),
         }
     }
 }

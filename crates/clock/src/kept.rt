@@ -2,6 +2,7 @@
 //
 // The type of a layer cannot say how wide the alarm below is, so the width comes with each call, and an appointment that
 // would not fit it counts as none. A layer never keeps such a one: what is kept comes from calls at the same width.
+// So a contract says the width beside what is kept, and there is no model: its value could not know that width.
 // Each layer is a type of its own over it, since what it makes of a sample and of a reading is its own; the rest is here.
 ghost use Rattle.std.specs.Prelude.{◌≡◌, ◌^◌, ◌<◌, ◌≤◌};
 ghost use Rattle.clock.specs.Appointment.{Sound, held, left_in, after_gain, requested, told, left_by, stops, claims, after_claim};

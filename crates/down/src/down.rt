@@ -19,6 +19,7 @@ use std::num::TryFromIntError;
 pub struct Count(pub u32);
 
 // A raw number, if it has no more bits than the register.
+// Each counter's crate has its own: the samples are types of their own, so that none is taken for another's.
 impl TryFrom<u64> for Count {
     type Error = TryFromIntError;
 

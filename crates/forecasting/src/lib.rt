@@ -45,6 +45,7 @@ fn fill(plan: &mut Plan, moments: &mut [u64], slots: &mut [u8]) -> usize
 
 // The first firings of a script that an empty logger would load at `start`, as many as both rows have place for:
 // their due moments and slots, in order, the lower slot first on a tie. Answers how many.
+// The two rows are the caller's, lent side by side as the interface has them.
 pub fn forecast(
     script: &[u8],
     start: Moment,

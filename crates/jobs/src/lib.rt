@@ -7,7 +7,7 @@ ghost use Rattle.jobs.specs.Text.{action_text};
 
 use std::fmt;
 
-// The slots are numbered from 0 up to this.
+// The slots are numbered from 0 up to this. A table of them is an array of 32, a number that clauses write out too.
 pub const LAST_SLOT: usize = 31;
 
 // The largest period and delay.

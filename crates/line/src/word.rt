@@ -42,7 +42,7 @@ impl Word<'_> {
         ensures within { IfOk result (λ n. (least ≤ n) × (n ≤ most)) }
     {
         let n = self.number()?;
-        if least <= n && n <= most {
+        if (least..=most).contains(&n) {
             Ok(n)
         } else {
             Err(self.fault(Cause::OutOfLimits))
@@ -57,6 +57,7 @@ impl Word<'_> {
         match free.get(slot as usize) {
             None => Err(self.fault(Cause::NoSlot)),
             Some(false) => Err(self.fault(Cause::Taken)),
+            // `as`, since it is below 32; `try_from` would have a refusal that never comes.
             Some(true) => Ok(slot as u8),
         }
     }

@@ -21,7 +21,7 @@ pub const MOST_BYTES: usize = 4096;
 // The most lines of a listing.
 const MOST_LINES: usize = 20;
 
-// The first firings from moment 0.
+// The first firings from moment 0, into two rows side by side as the forecast has them.
 fn list(script: &[u8], moments: &mut [u64], slots: &mut [u8]) -> Result<usize, Fault>
     ensures answer { result ≡ how_many (listed (places moments.old slots.old) script.now) }
     ensures moments { moments.new ≡ row_after (λ d. d.moment) (listed (places moments.old slots.old) script.now) moments.old }

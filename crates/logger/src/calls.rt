@@ -14,12 +14,12 @@ use clock::alarm::Alarm;
 use clock::wait::ticks_until;
 use fault::{Cause, Fault};
 use jobs::{Action, Firing, Job, Kind, Outcome, Slot};
-use slots::moment::Moment;
+use slots::moment::{LIMIT, Moment};
 use slots::{Entry, Terms};
 use table::Table;
 
-// The last moment at which a sample is still taken, 2^62 - 2^32: a sample brings fewer than 2^32 ticks.
-const LAST_SERVED: u64 = (1 << 62) - (1 << 32);
+// The last moment at which a sample is still taken: a sample brings fewer than 2^32 ticks.
+const LAST_SERVED: u64 = LIMIT - (1 << 32);
 
 // The ticks that a sample brings, fewer than 2^32 since they are no more than the true ticks.
 fn taken<A: Alarm>(alarm: &mut A, sample: A::Sample) -> Result<u64, Fault>
@@ -43,7 +43,6 @@ impl<A: Alarm> Logger<A> {
     }
 
     // Puts a slot into a state.
-    #[tactic(auto, using(crate::proofs::Fitting::fits_set))]
     fn put(&mut self, slot: usize, state: Slot)
         requires { slot_fits state ≡ true }
         ensures { view A.Clock.meaning self.new ≡ with_slot (view A.Clock.meaning self.old) slot state }

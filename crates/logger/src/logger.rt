@@ -1,5 +1,5 @@
 // The logger's state, over any alarm.
-ghost use Rattle.std.specs.Prelude.{◌≡◌, true};
+ghost use Rattle.std.specs.Prelude.{◌≡◌, true, length};
 ghost use Rattle.logger.specs.Within.{table_fits};
 
 use slots::moment::Moment;
@@ -13,5 +13,6 @@ pub struct Logger<A> {
     pub(crate) moment: Moment,
     pub(crate) table: Table,
     pub(crate) alarm: A,
+    ghost size: { length table ≡ 32 },
     ghost limits: { table_fits table ≡ true },
 }

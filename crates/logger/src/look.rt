@@ -4,7 +4,7 @@ ghost use Rattle.logger.specs.Look.{look_answer};
 
 use crate::logger::Logger;
 use fault::{Cause, Fault};
-use jobs::{LAST_SLOT, Slot};
+use jobs::Slot;
 
 impl<A> Logger<A> {
     // The number that its tickets carry.
@@ -25,10 +25,10 @@ impl<A> Logger<A> {
     pub fn slot(&self, slot: usize) -> Result<Slot, Fault>
         ensures { result ≡ look_answer self.now.table slot }
     {
-        if slot > LAST_SLOT {
-            return Err(Fault::in_slot(Cause::NoSlot, slot));
-        }
-        Ok(self.table.state(slot))
+        self.slots()
+            .get(slot)
+            .copied()
+            .ok_or(Fault::in_slot(Cause::NoSlot, slot))
     }
 
     // The whole table, slot 0 first.

@@ -99,7 +99,7 @@ impl<A: Alarm> Alarm for Offset<A> {
     }
 
     fn claim(&mut self) -> Option<u64> {
-        // Taken apart: a point below is set forward, and none stays none.
+        // A match and no map, as a layer takes apart what the alarm below answers: a point is set forward, none stays none.
         match self.below.claim() {
             Some(point) => Some(self.forward(point)),
             None => None,

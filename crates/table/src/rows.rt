@@ -16,6 +16,7 @@ fn record_of(state: Slot, slot: usize) -> Option<Due>
     match state {
         Slot::Standing { due, .. } => Some(Due {
             moment: due,
+            // `as`, since the slot is below 32; `try_from` would have a refusal that never comes.
             slot: slot as u8,
         }),
         Slot::Free | Slot::Waiting { .. } => None,
@@ -41,6 +42,7 @@ pub(crate) fn store(slots: &mut [Slot], agenda: &mut Agenda, slot: usize, state:
 pub(crate) fn shortest(slots: &[Slot], moment: u64) -> Option<u64>
     ensures { result ≡ nearest moment slots.now }
 {
+    // A loop over the plain slot table, the form in which the hold is to be read.
     let mut least = None;
     for slot in slots {
         if let Some(left) = distance(*slot, moment) {

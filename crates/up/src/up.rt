@@ -20,6 +20,7 @@ use std::num::TryFromIntError;
 pub struct Word(pub u32);
 
 // A raw number, if it has no more bits than the register.
+// Each counter's crate has its own: the samples are types of their own, so that none is taken for another's.
 impl TryFrom<u64> for Word {
     type Error = TryFromIntError;
 

@@ -15,6 +15,7 @@ impl Plan {
     fn new() -> Plan
         ensures { result ≡ [] }
     {
+        // by hand, since no job is a job by default
         let blank = Pending {
             due: Due { moment: 0, slot: 0 },
             kind: Kind::Once,
@@ -25,12 +26,13 @@ impl Plan {
         }
     }
 
+    #[tactic(auto, using(queue::proofs::Queued::length_queued))]
     fn put(&mut self, pending: Pending)
         requires { length self.old < 32 }
         ensures { self.new ≡ inserted pending_compare pending self.old }
     {
         // it is not refused: there is a place for each slot
-        let _ = self.queue.add(&mut self.row, pending);
+        self.queue.add(&mut self.row, pending).unwrap();
     }
 
     fn take(&mut self) -> Option<Pending>

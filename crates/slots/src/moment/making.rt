@@ -6,7 +6,7 @@ use super::Moment;
 use fault::{Cause, Fault};
 
 // Moments stay below 2^62.
-const LIMIT: u64 = 1 << 62;
+pub const LIMIT: u64 = 1 << 62;
 
 impl Moment {
     pub fn new(ticks: u64) -> Result<Moment, Fault>

@@ -11,6 +11,7 @@ impl Agenda {
     pub(crate) fn new() -> Agenda
         ensures { result ≡ [] }
     {
+        // by hand, since no moment is due by default
         let blank = Due { moment: 0, slot: 0 };
         Agenda {
             queue: Queue::new(),
@@ -32,7 +33,7 @@ impl Agenda {
     {
         if let Some(due) = due {
             // it is not refused: there is a place for each slot
-            let _ = self.queue.add(&mut self.row, due);
+            self.queue.add(&mut self.row, due).unwrap();
         }
     }
 
