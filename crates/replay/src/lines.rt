@@ -43,7 +43,7 @@ impl Lines {
     }
 
     // Answers the lines, each as its command is answered, up to one that breaks off, or to the end of the input.
-    pub fn answer_each<B: Drop, F>(&mut self, mut answer: F) -> io::Result<Option<B>>
+    pub(crate) fn answer_each<B: Drop, F>(&mut self, mut answer: F) -> io::Result<Option<B>>
     where
         F: FnMut(&mut Lines, Command) -> Result<ControlFlow<B, Answer>, Failure>,
         requires { F.IsAlwaysCallable answer }

@@ -62,6 +62,6 @@ pub fn down(reload: u64, first: u64, tag: u8) -> Result<DownCounter, Fault> {
 }
 
 // A number too large for its limits stays too large.
-pub fn narrow(n: u64) -> u32 {
+pub(crate) fn narrow(n: u64) -> u32 {
     u32::try_from(n).unwrap_or(u32::MAX)
 }

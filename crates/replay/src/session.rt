@@ -25,7 +25,7 @@ impl<A: Alarm + Drop> Session<A>
 where
     A::Sample: TryFrom<u64, Error = TryFromIntError>,
 {
-    pub fn new(logger: Logger<A>, tag: u8, heap: Global) -> Session<A> {
+    pub(crate) fn new(logger: Logger<A>, tag: u8, heap: Global) -> Session<A> {
         let tickets = Tickets::new(heap);
         Session {
             logger,
@@ -35,7 +35,7 @@ where
     }
 
     // Answers lines until a stack is accepted, or the input ends; the tickets held then are settled first.
-    pub fn answer_lines(mut self, lines: &mut Lines) -> io::Result<Option<Stack>> {
+    pub(crate) fn answer_lines(mut self, lines: &mut Lines) -> io::Result<Option<Stack>> {
         let ended = lines.answer_each(|lines, command| self.answer(lines, command));
         let Session {
             mut logger,

@@ -55,7 +55,7 @@ impl TryFrom<Plan> for Stack {
 
 impl Stack {
     // Answers lines until another stack is accepted, or the input ends.
-    pub fn answer_lines(self, lines: &mut Lines) -> io::Result<Option<Stack>> {
+    pub(crate) fn answer_lines(self, lines: &mut Lines) -> io::Result<Option<Stack>> {
         let Stack {
             counter,
             tag,

@@ -47,7 +47,7 @@ impl<A: Alarm> Build<A> {
         &self.logger
     }
 
-    pub fn told(&self) -> &Told {
+    pub(crate) fn told(&self) -> &Told {
         &self.told
     }
 
