@@ -21,7 +21,10 @@ pub enum Call<X> {
 
 impl<X> Call<X> {
     // The call with its sample, if it has one, as f turns it.
-    pub(crate) fn try_map<Y, E, F: FnOnce(X) -> Result<Y, E> + Drop>(self, f: F) -> Result<Call<Y>, E>
+    pub(crate) fn try_map<Y, E, F: FnOnce(X) -> Result<Y, E> + Drop>(
+        self,
+        f: F,
+    ) -> Result<Call<Y>, E>
         requires { F.IsAlwaysCallable f }
     {
         Ok(match self {
