@@ -52,7 +52,7 @@ at_turned half d e up down whole =
     (cases_order d half)
 
 module _ (w a b : ℕ) where
-  lead_inside : 2 ≤ w → w ≤ 48 → a < 2 ^ w → b < 2 ^ w → lead_of w a b ≡ lead_at (2 ^ (w - 1)) (minus w a b)
+  pub lead_inside : 2 ≤ w → w ≤ 48 → a < 2 ^ w → b < 2 ^ w → lead_of w a b ≡ lead_at (2 ^ (w - 1)) (minus w a b)
   lead_inside low high ha hb =
       cond-true _ _ _ (and_from _ _ (le-leb 2 w low) (le-leb w 48 high)) ∙ cond-true _ _ _ (and_from _ _ (lt-ltb a (2 ^ w) ha) (lt-ltb b (2 ^ w) hb))
 

@@ -1,5 +1,5 @@
 -- An appointment that is set from the present reading: it stands with its whole delay. Assumes nothing.
-use Rattle.std.proofs.Common.{◌≡◌, ℕ, ◌+◌, ◌-◌, ◌^◌, ◌<◌, ◌≤◌, Bool, true, ◌&&◌, ltb, Ok, Err, ap, ◌∙◌, ⊎_elim, arith}
+use Rattle.std.proofs.Common.{◌≡◌, ℕ, ◌+◌, ◌-◌, ◌^◌, ◌<◌, ◌≤◌, Bool, true, ◌&&◌, ltb, Result, Ok, Err, ap, ◌∙◌, ⊎_elim, arith}
 use Rattle.std.proofs.Math.Nat.{mod_self}
 use Rattle.std.proofs.lemmas.Bool.{lt-ltb, le-ltb, and_from, and_right, cond-true, cond-false, cases_lt}
 use Rattle.fault.specs.declared.Fault.{Fault}
@@ -67,3 +67,10 @@ module _ {X : Type 0} (m₀ m₁ m₂ : Meaning X) (a₀ a₁ a₂ : Appointment
 
       far : 2 ^ m₀.width ≤ left → wait_for m₀ left ≡ m₀.reach - 1
       far h = wait_never m₀ left (turn_never m₀ left law h)
+
+  pub idle_still : (f : Fault) → SetTo m₁ a₁ reading left (Err f) m₂ a₂ → a₂ ≡ Idle
+  idle_still f set = kept (setting m₁.width m₁.reading reading left a₁) set.answer set.appointment ∙ stopped.appointment
+    where
+      kept : (r : Result Appointment Fault) → Err f ≡ told r → a₂ ≡ left_by r a₁ → a₂ ≡ a₁
+      kept (Ok a) e k = let z : ◌≡◌ {A = ℕ} 0 1 = cc in absurd (omega arith)
+      kept (Err f') e k = k

@@ -4,7 +4,7 @@ use Rattle.std.proofs.lemmas.Bool.{leb-true, leb-false, le-leb, lt-leb, cases_lt
 use Rattle.clock.specs.Meaning.{Meaning, Counts, Lawful}
 use Rattle.clock.specs.declared.appointment.Appointment.{Appointment}
 use Rattle.clock.specs.declared.appointment.Appointment.TheVariants.{Idle, Standing, Due}
-use Rattle.clock.specs.Hold.{first_from, wait_for, hold_of, HeldOver, Least, Never, Waits}
+use Rattle.clock.specs.Hold.{first_from, wait_for, Least, Never, Waits}
 
 -- every number from d up to e fails the test
 abbrev pub Fails : (ℕ → Bool) → ℕ → ℕ → Type 0
@@ -100,8 +100,8 @@ pub wait_nought : {X : Type 0} (m : Meaning X) → Lawful m → wait_for m 0 ≡
 wait_nought m law = wait_least m 0 0 (record { within = omega (arith, law.reach_low); come = omega arith; first = λ d h. absurd (omega arith) })
 
 -- a clock that gains each tick waits for what is left, capped below the reach
-pub steady_wait : {X : Type 0} (m : Meaning X) (left : ℕ) → Lawful m → ((d : ℕ) → m.measure d ≡ d) → min left (m.reach - 1) ≡ wait_for m left
-steady_wait m left law steady = ⊎_elim near far (cases_lt left m.reach)
+pub steady_wait : {X : Type 0} (m : Meaning X) (left : ℕ) → ((d : ℕ) → m.measure d ≡ d) → min left (m.reach - 1) ≡ wait_for m left
+steady_wait m left steady = ⊎_elim near far (cases_lt left m.reach)
   where
     near : left < m.reach → min left (m.reach - 1) ≡ wait_for m left
     near h =
@@ -115,17 +115,9 @@ steady_wait m left law steady = ⊎_elim near far (cases_lt left m.reach)
 
     far : m.reach ≤ left → min left (m.reach - 1) ≡ wait_for m left
     far h =
-        let capped : min left (m.reach - 1) ≡ m.reach - 1 = omega (arith, law.reach_low) in
+        let capped : min left (m.reach - 1) ≡ m.reach - 1 = omega arith in
         capped ∙ sym (wait_never m left (λ d small. omega (arith, steady d)))
 
 -- one tick for each true tick
 pub each_tick : Counts (λ d. d)
 each_tick = record { nought = refl; grows = λ d. omega arith; slow = λ d. omega arith }
-
--- the hold over the alarm below is the layer's own
-pub held_over : {X : Type 0} (below m : Meaning X) (needed : ℕ → ℕ → Type 0) → below.reach ≡ m.reach
-    → ((left n : ℕ) → needed left n → wait_for below n ≡ wait_for m left)
-    → (a : Appointment) (r : ℕ) → HeldOver below needed a r → r ≡ hold_of m a
-held_over below m needed reach same Idle r h = h ∙ ap (λ n. n - 1) reach
-held_over below m needed reach same (Standing left) r h = h.2 ∙ same left h.0 h.1
-held_over below m needed reach same (Due point) r h = h

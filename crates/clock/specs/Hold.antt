@@ -19,12 +19,6 @@ hold_of m Idle = m.reach - 1
 hold_of m (Standing left) = wait_for m left
 hold_of m (Due point) = 0
 
--- the hold of a layer over the alarm below: `needed left n` says that n ticks below bring what is left
-abbrev pub HeldOver : {X : Type 0} → Meaning X → (ℕ → ℕ → Type 0) → Appointment → ℕ → Type 0
-HeldOver m needed Idle r = r ≡ m.reach - 1
-HeldOver m needed (Standing left) r = (n : ℕ) × needed left n × (r ≡ wait_for m n)
-HeldOver m needed (Due point) r = r ≡ 0
-
 -- wait is the least number of true ticks, below the reach, in which the clock gains what is left
 pub record Least {X : Type 0} (m : Meaning X) (left wait : ℕ) : Type 0 where
   pub within : wait < m.reach

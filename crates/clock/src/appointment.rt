@@ -75,6 +75,8 @@ pub enum Reply {
 
 impl Appointment {
     // The table, a cell for each state and event. Deadlines are judged by the ticks left, never by comparing readings.
+    // Inlined, so that of the twelve cells a call keeps the three of its event.
+    #[inline]
     fn respond(&mut self, event: Event) -> Reply
         ensures { (self.new, result) ≡ table self.old event }
     {

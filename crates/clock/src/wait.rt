@@ -1,8 +1,8 @@
 // How long a clock takes to gain a number of ticks: what layers and the logger ask of the alarm below them.
 ghost use Rattle.std.specs.Prelude.{◌≡◌, ℕ, ◌-◌};
 ghost use Rattle.clock.specs.Calls.{SetTo};
-ghost use Rattle.clock.specs.Hold.{wait_for, hold_of, HeldOver, Waits};
-ghost use Rattle.clock.specs.declared.appointment.Appointment.TheVariants.{Idle, Standing};
+ghost use Rattle.clock.specs.Hold.{wait_for, hold_of, Waits};
+ghost use Rattle.clock.specs.declared.appointment.Appointment.TheVariants.{Idle};
 
 use crate::alarm::{Alarm, Clock};
 use crate::appointment::Appointment;
@@ -58,19 +58,14 @@ pub fn steady_hold<C: Clock>(clock: &C, appointment: Appointment) -> u64
     }
 }
 
-// The hold of a layer over the alarm below, where `needed` answers how many ticks below bring so many of the layer's own.
-pub fn hold_over<A: Alarm, F: FnOnce(u64) -> u64>(
-    below: &mut A,
-    appointment: Appointment,
-    needed: F,
-) -> u64
-    requires { (left : ℕ) → appointment ≡ Standing left → F.pre needed left }
-    ensures answer { HeldOver (A.Clock.meaning below.old) (λ left n. F.post needed left n) appointment result }
+// The hold of a layer over the alarm below: what stands for the layer is told in ticks of that alarm.
+pub fn hold_over<A: Alarm>(below: &mut A, appointment: Appointment) -> u64
+    ensures answer { result ≡ hold_of (A.Clock.meaning below.old) appointment }
     ensures clock { A.Clock.meaning below.new ≡ A.Clock.meaning below.old }
 {
     match appointment {
         Appointment::Idle => longest(below),
-        Appointment::Standing(left) => ticks_until(below, needed(left)),
+        Appointment::Standing(left) => ticks_until(below, left),
         Appointment::Due(_) => 0,
     }
 }

@@ -1,5 +1,5 @@
 -- The down-counter keeps the laws of a clock, and moves as a clock moves. Assumes nothing.
-use Rattle.std.specs.Prelude.{◌≡◌, ℕ, ◌+◌, ◌-◌, ◌%◌, ◌^◌, ◌<◌, ◌≤◌, List, refl}
+use Rattle.std.specs.Prelude.{◌≡◌, ℕ, ◌+◌, ◌-◌, ◌%◌, ◌^◌, ◌<◌, ◌≤◌, min, List, refl}
 use Rattle.std.proofs.Common.{sym, ap, ◌∙◌, ⊎_elim, mod-lt, zero-add, arith}
 use Rattle.std.proofs.Math.Nat.{mod-add-mod, add-mod_right}
 use Rattle.std.proofs.lemmas.Bool.{cases_lt, lt-ltb, le-ltb, cond-true, cond-false}
@@ -10,9 +10,10 @@ use Rattle.down.specs.declared.down.Count.{Count}
 use Rattle.clock.specs.declared.appointment.Appointment.{Appointment}
 use Rattle.clock.specs.Appointment.{after_take}
 use Rattle.clock.specs.Calls.{Accepted}
+use Rattle.clock.specs.Hold.{wait_for}
 use Rattle.clock.proofs.Wrapping.{add_cancel}
 use Rattle.clock.proofs.Turning.{same_place, there_and_back}
-use Rattle.clock.proofs.Waiting.{each_tick}
+use Rattle.clock.proofs.Waiting.{each_tick, steady_wait}
 
 -- n is the length of a round
 module _ (n : ℕ) (some : 0 < n) where
@@ -80,6 +81,12 @@ module _ (reload last reading tag : ℕ) where
 
       gains : (x : ℕ) → x ≡ d + x - d
       gains x = omega arith
+
+  -- the wait of a clock that gains each tick is what is left, capped below the reach
+  pub down_wait : (left : ℕ) → min left reload ≡ wait_for (down_meaning reload last reading tag) left
+  down_wait left =
+      let longest : reload ≡ reload + 1 - 1 = omega arith in
+      ap (min left) longest ∙ steady_wait (down_meaning reload last reading tag) left (λ d. refl)
 
   -- a count that the counter can show was accepted
   pub down_accepted : (now d reading' : ℕ) (a a' : Appointment) → last ≤ reload → now ≤ reload → d ≡ fallen reload last now

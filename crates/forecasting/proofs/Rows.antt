@@ -1,9 +1,10 @@
 -- Rows into which firings are written one by one. Assumes nothing.
-use Rattle.std.proofs.Common.{◌≡◌, ℕ, suc, ◌+◌, ◌-◌, ◌*◌, ◌^◌, ◌<◌, ◌≤◌, Bool, true, false, cond, ltb, List, [], ◌∷◌, ◌++◌, map, length, drop, set, Some, None, sym, refl, ap, ◌∙◌, append_assoc, subst, add-one, arith}
+use Rattle.std.proofs.Common.{◌≡◌, ℕ, zero, suc, ◌+◌, ◌-◌, ◌*◌, ◌^◌, ◌<◌, ◌≤◌, Bool, true, false, cond, ltb, List, [], ◌∷◌, ◌++◌, map, length, drop, set, Some, None, sym, refl, ap, ◌∙◌, append_assoc, subst, add-one, arith}
+use native.Mathlib.Nat.{sub-zero}
 use Rattle.std.specs.List.{AllByRecursion}
 use Rattle.std.specs.Option.{option_map}
 use Rattle.std.proofs.ByRecursion.{All-weaker, all_shuffled}
-use Rattle.std.proofs.lemmas.List.{length_push}
+use Rattle.std.proofs.lemmas.List.{length_push, append-nil}
 use Rattle.queue.specs.declared.dues.Due.{Due}
 use Rattle.queue.specs.Order.{in_order}
 use Rattle.queue.proofs.Ordered.{shuffled_in_order}
@@ -49,6 +50,20 @@ pub record Sofar (n : ℕ) (ds : List Due) (moments slots : List ℕ) (i : ℕ) 
   pub slots_are : slots' ≡ map (λ d. d.slot) past ++ drop i slots
   pub calm : AllByRecursion (Calm (2 ^ 62 + (i + 1) * 2 ^ 40)) w
 
+pub sofar_none : (n : ℕ) (w : List Pending) (moments slots : List ℕ) → AllByRecursion (Calm (2 ^ 62 + 2 ^ 40)) w → Sofar n (firings n w) moments slots 0 moments slots w
+sofar_none n w moments slots calm = record {
+  past = [];
+  size = refl;
+  whole = ap (λ m. firings m w) (sym (sub-zero n));
+  moments_are = refl;
+  slots_are = refl;
+  calm = calm_more (2 ^ 62 + 2 ^ 40) (2 ^ 62 + (0 + 1) * 2 ^ 40) w (omega arith) calm;
+}
+
+firings_nil : (n : ℕ) → firings n [] ≡ []
+firings_nil zero = refl
+firings_nil (suc n) = refl
+
 module _ (n : ℕ) (ds : List Due) (moments slots : List ℕ) (i : ℕ) (moments' slots' : List ℕ) where
   more_by : (w : List Pending) (d : Due) → Some d ≡ first_due w → i < n → i < length moments → i < length slots → Sofar n ds moments slots i moments' slots' w
       → Sofar n ds moments slots (suc i) (set moments' i d.moment) (set slots' i d.slot) (after_first w)
@@ -82,3 +97,31 @@ module _ (n : ℕ) (ds : List Due) (moments slots : List ℕ) (i : ℕ) (moments
       let F : ℕ → Type 0 = λ j. Sofar n ds moments slots j (set moments' i d.moment) (set slots' i d.slot) w' in
       let G : List Pending → Type 0 = λ v. Sofar n ds moments slots (suc i) (set moments' i d.moment) (set slots' i d.slot) v in
       subst F (sym (add-one i)) (subst G (sym is) (more_by w d e h hm hs s))
+
+  -- all firings are written
+  pub record Done : Type 0 where
+    pub size : i ≡ length ds
+    pub moments_are : moments' ≡ map (λ d. d.moment) ds ++ drop (length ds) moments
+    pub slots_are : slots' ≡ map (λ d. d.slot) ds ++ drop (length ds) slots
+
+  done_by : (w : List Pending) → firings (n - i) w ≡ [] → Sofar n ds moments slots i moments' slots' w → Done
+  done_by w e s =
+      let all : s.past ≡ ds = sym (s.whole ∙ ap (λ l. s.past ++ l) e ∙ append-nil s.past) in
+      let size : i ≡ length ds = s.size ∙ ap length all in
+      record {
+        size = size;
+        moments_are = s.moments_are ∙ ap (λ x. map (λ (d : Due). d.moment) x ++ drop i moments) all ∙ ap (λ j. map (λ (d : Due). d.moment) ds ++ drop j moments) size;
+        slots_are = s.slots_are ∙ ap (λ x. map (λ (d : Due). d.slot) x ++ drop i slots) all ∙ ap (λ j. map (λ (d : Due). d.slot) ds ++ drop j slots) size;
+      }
+
+  first_none : (w : List Pending) → None ≡ first_due w → w ≡ []
+  first_none [] e = refl
+  first_none (p ∷ q) e = absurd (let z : ◌≡◌ {A = ℕ} 0 1 = cc in omega arith)
+
+  -- none waits any more
+  pub done_early : (w : List Pending) → None ≡ first_due w → Sofar n ds moments slots i moments' slots' w → Done
+  done_early w e s = done_by w (ap (firings (n - i)) (first_none w e) ∙ firings_nil (n - i)) s
+
+  -- the rows have place for no more
+  pub done_full : (w : List Pending) → n ≤ i → Sofar n ds moments slots i moments' slots' w → Done
+  done_full w h s = let z : n - i ≡ 0 = omega arith in done_by w (ap (λ m. firings m w) z) s

@@ -38,27 +38,59 @@ above_digits (b ∷ bs) h =
 above_decimal : (n : ℕ) → n < 2 ^ 64 → above (decimal n) ≡ true
 above_decimal n h = above_digits (decimal n) (digits_decimal own n h)
 
+-- the numbers of a line fit 64 bits
+abbrev pub action_small : Action → Type 0
+action_small (Read channel) = channel < 2 ^ 64
+action_small Mark = Unit {0}
+
+abbrev pub kind_small : Kind → Type 0
+kind_small Once = Unit {0}
+kind_small (Every period) = period < 2 ^ 64
+kind_small (Burst count period) = (count < 2 ^ 64) × (period < 2 ^ 64)
+
+pub record Small (l : Line) : Type 0 where
+  pub slot : l.slot < 2 ^ 64
+  pub delay : l.delay < 2 ^ 64
+  pub kind : kind_small l.job.kind
+  pub action : action_small l.job.action
+
+action_lawful : (a : Action) → action_fits a ≡ true → action_small a
+action_lawful (Read channel) h = let high = leb-true channel 15 h in omega arith
+action_lawful Mark h = tt
+
+kind_lawful : (k : Kind) → kind_fits k ≡ true → kind_small k
+kind_lawful Once h = tt
+kind_lawful (Every p) h = let b = period_within p h in omega arith
+kind_lawful (Burst n p) h =
+    let f = burst_within n p h in
+    let b = period_within p f.2 in
+    (omega arith, omega arith)
+
+-- those of a lawful line do
+pub lawful_small : (free : List Bool) (l : Line) → Lawful free l → Small l
+lawful_small free l law =
+    let j = job_within l.delay l.job law.2 in
+    record {
+      slot = omega (arith, law.0);
+      delay = omega (arith, j.0);
+      kind = kind_lawful l.job.kind j.1;
+      action = action_lawful l.job.action j.2;
+    }
+
 abbrev Clean : List (List ℕ) → Type 0
 Clean ws = AllByRecursion (λ w. above w ≡ true) ws
 
-clean_action : (a : Action) → action_fits a ≡ true → Clean (action_words a [])
-clean_action (Read channel) h = let high = leb-true channel 15 h in (refl, (above_decimal channel (omega arith), tt))
+clean_action : (a : Action) → action_small a → Clean (action_words a [])
+clean_action (Read channel) h = (refl, (above_decimal channel h, tt))
 clean_action Mark h = (refl, tt)
 
-clean_kind : (k : Kind) (d : ℕ) (more : List (List ℕ)) → kind_fits k ≡ true → d < 2 ^ 40 → Clean more → Clean (kind_words k d more)
-clean_kind Once d more h early m = (refl, (above_decimal d (omega arith), m))
-clean_kind (Every p) d more h early m =
-    let b = period_within p h in
-    (refl, (above_decimal p (omega arith), (above_decimal d (omega arith), m)))
-clean_kind (Burst n p) d more h early m =
-    let f = burst_within n p h in
-    let b = period_within p f.2 in
-    (refl, (above_decimal n (omega arith), (above_decimal p (omega arith), (above_decimal d (omega arith), m))))
+clean_kind : (k : Kind) (d : ℕ) (more : List (List ℕ)) → kind_small k → d < 2 ^ 64 → Clean more → Clean (kind_words k d more)
+clean_kind Once d more h hd m = (refl, (above_decimal d hd, m))
+clean_kind (Every p) d more h hd m = (refl, (above_decimal p h, (above_decimal d hd, m)))
+clean_kind (Burst n p) d more h hd m = (refl, (above_decimal n h.0, (above_decimal p h.1, (above_decimal d hd, m))))
 
-clean_line : (free : List Bool) (l : Line) → Lawful free l → Clean (line_words l)
-clean_line free l law =
-    let j = job_within l.delay l.job law.2 in
-    (above_decimal l.slot (omega (arith, law.0)), clean_kind l.job.kind l.delay _ j.1 j.0 (clean_action l.job.action j.2))
+clean_line : (l : Line) → Small l → Clean (line_words l)
+clean_line l s = (above_decimal l.slot s.slot, clean_kind l.job.kind l.delay _ s.kind s.delay (clean_action l.job.action s.action))
 
 clean_lacks : (c : ℕ) (ws : List (List ℕ)) → c < 48 → Clean ws → AllByRecursion (Lacks c) ws
 clean_lacks c ws h m = Each-weaker (λ w. above w ≡ true) (Lacks c) (λ w e. lacks_above c w h e) ws m
@@ -70,9 +102,8 @@ joined_lacks c (p ∷ (q ∷ qs)) n h =
     All-append (λ b. eqb b c ≡ false) p (32 ∷ join_with_byte 32 (q ∷ qs)) h.0
     (All-cons (λ b. eqb b c ≡ false) 32 (join_with_byte 32 (q ∷ qs)) n (joined_lacks c (q ∷ qs) n h.1))
 
-module _ (free : List Bool) (l : Line) (law : Lawful free l) where
-  pub line_text_words : words_of (line_text l) ≡ line_words l
-  line_text_words = cut_joined 32 _ _ (clean_lacks 32 (line_words l) (omega arith) (clean_line free l law))
+pub line_text_words : (l : Line) → Small l → words_of (line_text l) ≡ line_words l
+line_text_words l s = cut_joined 32 _ _ (clean_lacks 32 (line_words l) (omega arith) (clean_line l s))
 
-  pub line_text_lacks : Lacks 10 (line_text l)
-  line_text_lacks = joined_lacks 10 (line_words l) refl (clean_lacks 10 (line_words l) (omega arith) (clean_line free l law))
+pub line_text_lacks : (l : Line) → Small l → Lacks 10 (line_text l)
+line_text_lacks l s = joined_lacks 10 (line_words l) refl (clean_lacks 10 (line_words l) (omega arith) (clean_line l s))

@@ -1,7 +1,7 @@
 // The listing of a script: a line for each of its first firings, or the text of its fault.
 #![tactic(auto)]
 
-ghost use Rattle.std.specs.Prelude.{◌≡◌};
+ghost use Rattle.std.specs.Prelude.{◌≡◌, ◌+◌, ◌≤◌, ◌++◌, length};
 ghost use Rattle.forecasting.specs.Forecast.{places, how_many, row_after};
 ghost use Rattle.listing.specs.Listing.{listed, listing_text, copy_answer, copied};
 
@@ -34,15 +34,16 @@ fn list(script: &[u8], moments: &mut [u64], slots: &mut [u8]) -> Result<usize, F
     forecast(script, start, moments, slots)
 }
 
-// The text of a script's listing.
-fn text(script: &[u8]) -> Page
-    ensures { result.bytes ≡ listing_text script.now }
+// The text of a script's listing, onto the caller's page: to hand a page back would copy all of it at each return.
+fn text(page: &mut Page, script: &[u8])
+    requires { length page.old.bytes + 500 ≤ 1024 }
+    ensures { page.new.bytes ≡ page.old.bytes ++ listing_text script.now }
 {
     let mut moments = [0; MOST_LINES];
     let mut slots = [0; MOST_LINES];
     match list(script, &mut moments, &mut slots) {
-        Ok(count) => rows(&moments[..count], &slots[..count]),
-        Err(fault) => refusal(fault),
+        Ok(count) => rows(page, &moments[..count], &slots[..count]),
+        Err(fault) => refusal(page, fault),
     }
 }
 
@@ -51,7 +52,8 @@ pub fn listing(script: &[u8], buffer: &mut [u8]) -> Result<usize, Fault>
     ensures answer { result ≡ copy_answer (listing_text script.now) buffer.old }
     ensures buffer { buffer.new ≡ copied (listing_text script.now) buffer.old }
 {
-    let page = text(script);
+    let mut page = Page::new();
+    text(&mut page, script);
     let size = page.len();
     if size > buffer.len() {
         return Err(Fault::in_book(Cause::NoPlace, buffer.len()));

@@ -1,5 +1,5 @@
 // The text of a listing, piece by piece, since no clause says that a `write!` succeeds.
-ghost use Rattle.std.specs.Prelude.{◌≡◌, ◌+◌, ◌≤◌, [], ◌∷◌, ◌++◌, length};
+ghost use Rattle.std.specs.Prelude.{◌≡◌, ◌+◌, ◌*◌, ◌≤◌, [], ◌∷◌, ◌++◌, length};
 ghost use Rattle.fault.specs.Text.{place_text, where_text, fault_text};
 ghost use Rattle.listing.specs.Listing.{row_text, rows_text};
 
@@ -11,15 +11,13 @@ use itoa::{Buffer, Integer};
 pub(crate) type Page = ArrayString<PAGE>;
 
 // A line for each firing.
-pub(crate) fn rows(moments: &[u64], slots: &[u8]) -> Page
-    requires { length moments.now ≤ 20 }
-    ensures { result.bytes ≡ rows_text moments.now slots.now }
+pub(crate) fn rows(page: &mut Page, moments: &[u64], slots: &[u8])
+    requires { length page.old.bytes + 25 * length moments.now ≤ 1024 }
+    ensures { page.new.bytes ≡ page.old.bytes ++ rows_text moments.now slots.now }
 {
-    let mut page = Page::new();
     for (moment, slot) in moments.iter().zip(slots) {
-        put_row(&mut page, *moment, *slot);
+        put_row(page, *moment, *slot);
     }
-    page
 }
 
 // A firing: its due moment, a space, its slot, and the line's end.
@@ -44,16 +42,15 @@ fn put_number<I: Integer>(page: &mut Page, number: I)
 }
 
 // The text of a fault, and the line's end.
-pub(crate) fn refusal(fault: Fault) -> Page
-    ensures { result.bytes ≡ fault_text fault ++ (10 ∷ []) }
+pub(crate) fn refusal(page: &mut Page, fault: Fault)
+    requires { length page.old.bytes + 71 ≤ 1024 }
+    ensures { page.new.bytes ≡ page.old.bytes ++ fault_text fault ++ (10 ∷ []) }
 {
-    let mut page = Page::new();
     page.push_str("refused ");
-    put_number(&mut page, fault.cause.number());
+    put_number(page, fault.cause.number());
     page.push(' ');
-    put_where(&mut page, fault.part, fault.place);
+    put_where(page, fault.part, fault.place);
     page.push('\n');
-    page
 }
 
 // A part and its place; a line of a script needs no part beside it.

@@ -1,6 +1,6 @@
 -- A clock whose reading is set forward keeps the laws of a clock, and moves as a clock moves. Assumes nothing.
-use Rattle.std.specs.Prelude.{◌≡◌, ℕ, ◌+◌, ◌-◌, ◌%◌, ◌^◌, ◌<◌, Bool, true, false, cond, ◌&&◌, ◌∷◌, Ok, Err, Result, nat_lt, refl}
-use Rattle.std.proofs.Common.{sym, ap, ◌∙◌, mod-lt, arith, pow_pos}
+use Rattle.std.specs.Prelude.{◌≡◌, ℕ, ◌+◌, ◌-◌, ◌%◌, ◌^◌, ◌<◌, ◌≤◌, Bool, true, false, cond, ◌&&◌, ◌∷◌, Some, Ok, Err, Result, nat_lt, refl}
+use Rattle.std.proofs.Common.{sym, ap, ◌∙◌, mod-lt, arith, pow_pos, pow_mono}
 use Rattle.std.proofs.Math.Nat.{mod-add-mod, add-mod-mod, add-mod_right}
 use Rattle.std.proofs.lemmas.Bool.{lt-ltb}
 use Rattle.fault.specs.declared.Fault.{Fault}
@@ -9,7 +9,7 @@ use Rattle.clock.specs.declared.appointment.Appointment.{Appointment}
 use Rattle.clock.specs.declared.appointment.Appointment.TheVariants.{Idle, Standing, Due}
 use Rattle.clock.specs.Wrap.{plus, minus}
 use Rattle.clock.specs.Meaning.{Meaning, Lawful, advanced}
-use Rattle.clock.specs.Appointment.{after_take, placed, set_row, setting, told, left_by}
+use Rattle.clock.specs.Appointment.{Sound, after_take, placed, set_row, setting, told, left_by, claims}
 use Rattle.clock.specs.Making.{seen}
 use Rattle.offset.specs.Offset.{offset_meaning, shifted}
 use Rattle.clock.specs.Calls.{Taken, SetTo}
@@ -168,3 +168,12 @@ module _ {X : Type 0} (m : Meaning X) (law : Lawful m) (by : ℕ) where
             ∙ sym (left_seen f (setting m.width m.reading back delay a) a)
             ∙ ap (λ s. left_by s (f a)) same;
       }
+
+-- a point that is claimed is a reading
+pub claimed_fits : (w point : ℕ) (a : Appointment) → w ≤ 48 → Sound w a → Some point ≡ claims a → point < 2 ^ 48
+claimed_fits w point Idle narrow sound e = let z : ◌≡◌ {A = ℕ} 0 1 = cc in absurd (omega arith)
+claimed_fits w point (Standing left) narrow sound e = let z : ◌≡◌ {A = ℕ} 0 1 = cc in absurd (omega arith)
+claimed_fits w point (Due p) narrow sound e =
+    let same : point ≡ p = cc in
+    let top : 2 ^ w ≤ 2 ^ 48 = pow_mono narrow in
+    omega arith

@@ -139,3 +139,17 @@ module _ (q p r : ℕ) (some : 1 ≤ q) (slow : q ≤ p) (small : r < p) where
       where
         gains : gained ≡ (r + q * m.measure taken.ticks) / p
         gains = gain ∙ ap (λ n. (r + q * n) / p) taken.gain
+
+-- the products that the code forms fit
+pub parts_fit : (q p r ticks : ℕ) → q ≤ p → p ≤ 4096 → r < p → ticks < 2 ^ 32 → r + q * ticks < 2 ^ 64
+parts_fit q p r ticks slow high small few =
+    let product : q * ticks ≤ 4096 * 2 ^ 32 = mul-le q ticks 4096 (2 ^ 32) (omega arith) (omega arith) in
+    omega arith
+
+pub left_fits : (p left : ℕ) → p ≤ 4096 → left ≤ 2 ^ 48 → p * left < 2 ^ 64
+left_fits p left high fits =
+    let product : p * left ≤ 4096 * 2 ^ 48 = mul-le p left 4096 (2 ^ 48) high fits in
+    omega arith
+
+pub left_above : (p r left : ℕ) → r < p → 1 ≤ left → r ≤ p * left
+left_above p r left small some = omega (arith, mul-le-mul_left p some)

@@ -119,12 +119,7 @@ impl<A: Alarm> Alarm for Rate<A> {
 
     fn hold(&mut self) -> u64 {
         let appointment = self.kept.at(Width::of(self));
-        let ratio = self.ratio;
-        let remainder = self.remainder;
-        hold_over(
-            &mut self.below,
-            appointment,
-            |left| ratio.needed(remainder, left),
-        )
+        let needed = self.ratio.needed_for(self.remainder, appointment);
+        hold_over(&mut self.below, needed)
     }
 }

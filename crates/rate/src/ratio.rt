@@ -2,8 +2,10 @@
 ghost use Rattle.std.specs.Prelude.{◌≡◌, ◌+◌, ◌*◌, ◌^◌, ◌<◌, ◌≤◌};
 ghost use Rattle.clock.specs.Making.{seen};
 ghost use Rattle.rate.specs.Ratio.{ratio_made};
-ghost use Rattle.rate.specs.Rate.{needed};
+ghost use Rattle.rate.specs.Rate.{needed, needed_for};
+ghost use Rattle.clock.specs.Appointment.{Sound};
 
+use clock::appointment::Appointment;
 use fault::{Cause, Fault};
 
 // A rate: so many gains for so many ticks of the clock below.
@@ -41,5 +43,17 @@ impl Ratio {
         ensures { result ≡ needed self.gains self.ticks remainder left }
     {
         (self.ticks * left - remainder).div_ceil(self.gains)
+    }
+
+    // An appointment, with what is left in ticks of the clock below.
+    pub(crate) fn needed_for(self, remainder: u64, appointment: Appointment) -> Appointment
+        requires small { remainder < self.ticks }
+        requires sound { Sound 48 appointment }
+        ensures { result ≡ needed_for self.gains self.ticks remainder appointment }
+    {
+        match appointment {
+            Appointment::Standing(left) => Appointment::Standing(self.needed(remainder, left)),
+            Appointment::Idle | Appointment::Due(_) => appointment,
+        }
     }
 }

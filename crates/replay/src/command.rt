@@ -129,6 +129,7 @@ fn rate(words: &mut Words) -> Option<Layer> {
     Some(Layer::Rate { gains, ticks })
 }
 
+#[inline(always)]
 fn set(words: &mut Words) -> Option<Call<u64>> {
     let reference = number_of(words)?;
     let delay = number_of(words)?;

@@ -34,7 +34,7 @@ impl<A: Alarm> Layered<A> {
     }
 }
 
-// What the layer answers, whichever it is.
+// What the layer answers, whichever it is. The methods are inlined, so that a call through three layers is one piece of code.
 // A macro, since the four arms hold alarms of four types, which no one closure can take.
 macro_rules! by_layer {
     ($layered:expr, $alarm:ident => $answer:expr) => {
@@ -57,14 +57,17 @@ impl<A: Alarm> Clock for Layered<A> {
         (λ x. rate_lawful x.ratio.gains x.ratio.ticks x.remainder x.ratio.some x.ratio.slow x.small (A.Clock.meaning x.below) (A.Clock.lawful x.below) x.count)
         (Prim.search (offset_lawful, A.Clock.lawful)) };
 
+    #[inline(always)]
     fn width(&self) -> u32 {
         by_layer!(self, alarm => alarm.width())
     }
 
+    #[inline(always)]
     fn reach(&self) -> u64 {
         by_layer!(self, alarm => alarm.reach())
     }
 
+    #[inline(always)]
     fn reading(&self) -> u64 {
         by_layer!(self, alarm => alarm.reading())
     }
@@ -75,22 +78,27 @@ impl<A: Alarm> Alarm for Layered<A> {
 
     ghost sound = { by_layer_law _ A.Alarm.sound (Prim.search rules) (Prim.search rules) (Prim.search rules) };
 
+    #[inline(always)]
     fn take(&mut self, sample: A::Sample) -> Result<u64, Fault> {
         by_layer!(self, alarm => alarm.take(sample))
     }
 
+    #[inline(always)]
     fn set(&mut self, reference: u64, delay: u64) -> Result<(), Fault> {
         by_layer!(self, alarm => alarm.set(reference, delay))
     }
 
+    #[inline(always)]
     fn stop(&mut self) -> bool {
         by_layer!(self, alarm => alarm.stop())
     }
 
+    #[inline(always)]
     fn claim(&mut self) -> Option<u64> {
         by_layer!(self, alarm => alarm.claim())
     }
 
+    #[inline(always)]
     fn hold(&mut self) -> u64 {
         by_layer!(self, alarm => alarm.hold())
     }

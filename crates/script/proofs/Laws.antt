@@ -16,7 +16,7 @@ use Rattle.line.proofs.Back.{lined}
 use Rattle.line.proofs.Binds.{err_not_ok, same_ok, bind_ok, bind_back}
 use Rattle.words.proofs.Cuts.{cut_some}
 use Rattle.line.proofs.Forth.{line_forth}
-use Rattle.line.proofs.Letters.{line_text_words, line_text_lacks}
+use Rattle.line.proofs.Letters.{lawful_small, line_text_words, line_text_lacks}
 use Rattle.script.proofs.Pieces.{from_more}
 
 -- a slot that is free after slot s was taken
@@ -44,10 +44,10 @@ script_forth : (ls : List Line) (n at : ℕ) (free : List Bool) → AllByRecursi
 script_forth [] n at free h d = refl
 script_forth (l ∷ ls) n at free h d =
     let some = cut_some 10 (script_text ls) in
-    let pieces = slice_split_at (λ b. eqb b 10) (line_text l) 10 (script_text ls) (line_text_lacks free l h.0) refl in
+    let pieces = slice_split_at (λ b. eqb b 10) (line_text l) 10 (script_text ls) (line_text_lacks l (lawful_small free l h.0)) refl in
     let rest = script_forth ls (n + 1) (at + (length (line_text l) + 1)) (set free l.slot false) (lawful_later free l.slot ls h.1 d.0) d.1 in
     from_more n at free _ (line_text l) some.0 some.1 (pieces ∙ ap (λ ps. line_text l ∷ ps) some.2)
-    ∙ bind_ok _ (line_forth free (whole_line n at (line_text l)) l h.0 (line_text_words free l h.0))
+    ∙ bind_ok _ (line_forth free (whole_line n at (line_text l)) l h.0 (line_text_words l (lawful_small free l h.0)))
     ∙ bind_ok _ (ap (script_from (n + 1) (at + (length (line_text l) + 1)) (set free l.slot false)) (sym some.2) ∙ rest)
 
 -- what is accepted

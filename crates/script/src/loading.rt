@@ -14,7 +14,12 @@ use logger::logger::Logger;
 fn free_slots(slots: &[Slot; 32]) -> [bool; 32]
     ensures { result ≡ free_slots slots.now }
 {
-    slots.map(|slot| slot.is_free())
+    // A loop, since the library's `map` of an array takes the table by value, slot by slot.
+    let mut free = [false; 32];
+    for (i, slot) in slots.iter().enumerate() {
+        free[i] = slot.is_free();
+    }
+    free
 }
 
 // Sets up the job of a line at the logger's moment.

@@ -10,25 +10,35 @@ use std::io::{BufRead, Write};
 const CUT: usize = 60;
 
 fn main(rt: HostRuntime) -> io::Result<()> {
-    for line in rt.reader().split(rt.alloc(), b'\n') {
-        show(&rt, line?)?;
+    let mut input = rt.reader();
+    // One row for all lines, since the library's `split` makes one for each.
+    let mut line = Vec::new(rt.alloc());
+    // A count, since nothing measures how much input is left.
+    for _ in 0..u64::MAX {
+        line.clear();
+        if input.read_until(b'\n', &mut line)? == 0 {
+            break;
+        }
+        // A line is what stands before its last byte, be that byte 10 or not.
+        let _ = line.pop();
+        show(&rt, &mut line)?;
     }
     Ok(())
 }
 
-fn show(rt: &HostRuntime, mut line: Vec<u8>) -> io::Result<()> {
+fn show(rt: &HostRuntime, line: &mut [u8]) -> io::Result<()> {
     let shown = line.len().min(CUT);
     rt.stdout().write_all(b"> ")?;
     rt.stdout().write_all(&line[..shown])?;
     rt.stdout().write_all(b"\n")?;
-    for byte in &mut line {
+    for byte in line.iter_mut() {
         if *byte == b';' {
             *byte = b'\n';
         }
     }
     // As in the program `forecast`: a crate for these lines would be longer than they are.
     let mut page = [0; PAGE];
-    match listing(&line, &mut page) {
+    match listing(line, &mut page) {
         Ok(length) => rt.stdout().write_all(&page[..length]),
         Err(fault) => println!(rt; "{fault}"),
     }

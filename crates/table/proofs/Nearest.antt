@@ -73,3 +73,10 @@ none_stands s slots none = by (nearest s slots) (answered s slots)
     by : (o : Option ℕ) → Answer s slots o → o ≡ None
     by None b = refl
     by (Some n) b = never (sym (none b.place) ∙ b.stands)
+
+-- so that a table can be gone through from the front
+pub nearer_assoc : (a b c : Option ℕ) → nearer (nearer a b) c ≡ nearer a (nearer b c)
+nearer_assoc None b c = refl
+nearer_assoc (Some m) None c = refl
+nearer_assoc (Some m) (Some n) None = refl
+nearer_assoc (Some m) (Some n) (Some k) = let same_min : min (min m n) k ≡ min m (min n k) = omega arith in ap (λ i. Some i) same_min

@@ -1,7 +1,10 @@
 -- The records of a table when one slot changes: the old one's record goes out, the new one's comes in. Assumes nothing.
 use Rattle.std.proofs.Common.{◌≡◌, ℕ, suc, ◌+◌, ◌<◌, ◌≤◌, List, [], ◌∷◌, ◌++◌, length, get_or, take, drop, set, Some, None, Option, sym, refl, ap, ◌∙◌, add-zero, zero-add, arith}
+use mathlib.Core.Logic.{∥∥₁_elim}
+use base.Stored.{Coded-set, coded_list}
 use Rattle.std.proofs.lemmas.List.{append_assoc, length-append, length-take-le, length-drop, set-get_or, set_split}
 use Rattle.queue.specs.declared.dues.Due.{Due}
+use Rattle.queue.specs.contracts.dues.Due.{the_row}
 use Rattle.queue.specs.Due.{due_compare, due_order}
 use Rattle.queue.specs.Order.{in_order}
 use Rattle.queue.proofs.DueOrder.{due_strict}
@@ -10,6 +13,11 @@ use Rattle.queue.proofs.Sorted.{in_order_middle, without_in_order}
 use Rattle.jobs.specs.declared.Slot.{Slot}
 use Rattle.jobs.specs.declared.Slot.TheVariants.{Free}
 use Rattle.table.specs.Dues.{due_of, listed, standing_dues, planned, noted, forgotten}
+
+-- ---- an equation that a ghost field holds
+
+pub dues_same : {xs ys : List Due} → ∥ xs ≡ ys ∥₁ → xs ≡ ys
+dues_same {xs} {ys} h = ∥∥₁_elim h (Coded-set (coded_list the_row.coded) xs ys) (λ e. e)
 
 -- ---- one record more or less
 

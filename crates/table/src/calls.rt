@@ -1,5 +1,5 @@
 // What a table tells of its slots, and how one is written.
-ghost use Rattle.std.specs.Prelude.{◌≡◌, replicate, slice_index_or, slice_set};
+ghost use Rattle.std.specs.Prelude.{◌≡◌, length, replicate, slice_index_or, slice_set};
 ghost use Rattle.jobs.specs.declared.Slot.TheVariants.{Free};
 ghost use Rattle.queue.specs.Row.{first};
 ghost use Rattle.table.specs.Dues.{planned, ready_slot};
@@ -24,14 +24,16 @@ impl Table {
 
     // The state of one slot; a slot past the table counts as free.
     pub fn state(&self, slot: usize) -> Slot
-        ensures { result ≡ slice_index_or self.now slot Free }
+        ensures state { result ≡ slice_index_or self.now slot Free }
+        ensures size { length self.now ≡ 32 }
     {
         self.slots.get(slot).copied().unwrap_or(Slot::Free)
     }
 
     // Puts a slot into a state; there is none past the table to put.
     pub fn put(&mut self, slot: usize, state: Slot)
-        ensures { self.new ≡ slice_set self.old slot state }
+        ensures table { self.new ≡ slice_set self.old slot state }
+        ensures size { length self.new ≡ 32 }
     {
         store(&mut self.slots, &mut self.agenda, slot, state);
     }
@@ -54,7 +56,8 @@ impl Table {
 
     // The smallest distance from a moment to a due one.
     pub fn nearest(&self, moment: u64) -> Option<u64>
-        ensures { result ≡ nearest moment self.now }
+        ensures distance { result ≡ nearest moment self.now }
+        ensures size { length self.now ≡ 32 }
     {
         shortest(&self.slots, moment)
     }

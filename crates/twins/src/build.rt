@@ -1,4 +1,4 @@
-// One build of the product: a logger over its clocks, and what it has told so far.
+// One build of the product: a logger over its clocks, and what it has reported so far.
 use crate::halt::Halt;
 use clock::alarm::Alarm;
 use jobs::{Action, Firing, Job, Outcome};
@@ -10,19 +10,11 @@ use std::iter;
 // The slot of the job that both builds run.
 pub const SHARED_SLOT: usize = 3;
 
-// What two builds with the same job are to tell alike.
-#[derive(PartialEq, Drop)]
-pub struct Told {
-    // the moments read
-    pub moments: Vec<u64>,
-    // the firings of the shared slot
-    pub reports: Vec<Firing>,
-}
-
 #[derive(Drop)]
 pub struct Build<A: Alarm> {
     logger: Logger<A>,
-    told: Told,
+    // the firings of the shared slot
+    reports: Vec<Firing>,
     // how many firings of other slots came
     others: u64,
     // the longest wait that `hold` allowed
@@ -31,13 +23,9 @@ pub struct Build<A: Alarm> {
 
 impl<A: Alarm> Build<A> {
     pub fn new(heap: Global, logger: Logger<A>) -> Build<A> {
-        let told = Told {
-            moments: Vec::new(heap),
-            reports: Vec::new(heap),
-        };
         Build {
             logger,
-            told,
+            reports: Vec::new(heap),
             others: 0,
             longest: 0,
         }
@@ -47,12 +35,8 @@ impl<A: Alarm> Build<A> {
         &self.logger
     }
 
-    pub(crate) fn told(&self) -> &Told {
-        &self.told
-    }
-
     pub fn reports(&self) -> &[Firing] {
-        &self.told.reports
+        &self.reports
     }
 
     pub fn others(&self) -> u64 {
@@ -67,7 +51,7 @@ impl<A: Alarm> Build<A> {
     pub fn empty(&mut self) -> Result<(), Halt> {
         for firing in iter::from_fn(|| self.logger.next()).take(usize::MAX) {
             if firing.slot == SHARED_SLOT {
-                self.told.reports.push(firing)?;
+                self.reports.push(firing)?;
             } else {
                 self.others = self.others.saturating_add(1);
             }
@@ -84,7 +68,6 @@ impl<A: Alarm> Build<A> {
     // Also emptied after it, so that what fires at this moment is among the reports.
     pub fn serve(&mut self, sample: A::Sample) -> Result<u64, Halt> {
         let moment = self.emptied()?.serve(sample)?;
-        self.told.moments.push(moment)?;
         self.empty()?;
         Ok(moment)
     }

@@ -1,6 +1,6 @@
 // Why a run stops before its end.
 use fault::Fault;
-use std::alloc::AllocError;
+use std::alloc::AllocFailed;
 use std::io;
 use thiserror::Error;
 
@@ -11,6 +11,13 @@ pub enum Halt {
     Call(#[from] Fault),
     #[error("output: {0}")]
     Output(#[from] io::Error),
-    #[error(transparent)]
-    Memory(#[from(alloc)] AllocError),
+    #[error("out of memory")]
+    Memory,
+}
+
+// By hand, since a derived one would hold the error, and the run's last line would show it.
+impl<T: Drop> From<AllocFailed<T>> for Halt {
+    fn from(_value: AllocFailed<T>) -> Halt {
+        Halt::Memory
+    }
 }

@@ -6,7 +6,7 @@ use crate::samples::{AFTER, BEFORE, DURING, STRAY, Samples};
 use answers::{Answer, LoggerAnswer, YesNo};
 use clock::alarm::Alarm;
 use down::Count;
-use jobs::{Action, Job, Kind};
+use jobs::{Action, Firing, Job, Kind};
 use logger::logger::Logger;
 use promise::start_alike;
 use slots::moment::Moment;
@@ -72,6 +72,8 @@ pub struct Twins<U: Alarm, D: Alarm> {
     down: Build<D>,
     // how many reports of the job are in the table
     shown: usize,
+    // whether both have read the same moments so far; a flag, since a row of moments would grow with each
+    together: bool,
 }
 
 impl<U: Alarm<Sample = Word>, D: Alarm<Sample = Count>> Twins<U, D> {
@@ -80,6 +82,7 @@ impl<U: Alarm<Sample = Word>, D: Alarm<Sample = Count>> Twins<U, D> {
             up: Build::new(heap, Logger::new(up, 1, start)),
             down: Build::new(heap, Logger::new(down, 2, start)),
             shown: 0,
+            together: true,
         }
     }
 
@@ -123,22 +126,21 @@ impl<U: Alarm<Sample = Word>, D: Alarm<Sample = Count>> Twins<U, D> {
     fn serve(&mut self, samples: Samples) -> Result<u64, Halt> {
         self.up.hold()?;
         let moment = self.up.serve(samples.up)?;
-        self.down.serve(samples.down)?;
+        self.together &= self.down.serve(samples.down)? == moment;
         Ok(moment)
     }
 
     // A line for each new report of the job, or one where there is none.
     fn show(&mut self, rt: &HostRuntime, moment: u64) -> io::Result<()> {
-        let ups = self.up.reports();
-        let downs = self.down.reports();
-        let most = ups.len().max(downs.len());
+        let ups = later(self.up.reports(), self.shown);
+        let downs = later(self.down.reports(), self.shown);
+        let new = ups.len().max(downs.len());
         let up = ups.iter().copied().map(Some).chain(iter::repeat(None));
         let down = downs.iter().copied().map(Some).chain(iter::repeat(None));
-        let rows = up.zip(down).take(most.max(self.shown.saturating_add(1)));
-        for (up, down) in rows.skip(self.shown) {
+        for (up, down) in up.zip(down).take(new.max(1)) {
             show_row(rt, moment, Report(up), Report(down))?;
         }
-        self.shown = most;
+        self.shown = self.shown.saturating_add(new);
         Ok(())
     }
 
@@ -184,9 +186,14 @@ impl<U: Alarm<Sample = Word>, D: Alarm<Sample = Count>> Twins<U, D> {
     fn show_totals(&self, rt: &HostRuntime) -> io::Result<()> {
         show_row(rt, "other firings", self.up.others(), self.down.others())?;
         show_row(rt, "longest hold", self.up.longest(), self.down.longest())?;
-        let agreed = YesNo(self.up.told() == self.down.told());
+        let agreed = YesNo(self.together && self.up.reports() == self.down.reports());
         println!(rt; "firings agreed: {agreed}")
     }
+}
+
+// The reports after those that are in the table.
+fn later(reports: &[Firing], shown: usize) -> &[Firing] {
+    reports.get(shown..).unwrap_or(&[])
 }
 
 fn show_row<H: fmt::Display + Copy, C: fmt::Display + Copy>(

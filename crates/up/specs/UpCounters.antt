@@ -1,5 +1,5 @@
 -- The up-counter keeps the laws of a clock, and moves as a clock moves. Assumes nothing.
-use Rattle.std.specs.Prelude.{◌≡◌, ℕ, ◌+◌, ◌-◌, ◌%◌, ◌^◌, ◌<◌, ◌≤◌, List}
+use Rattle.std.specs.Prelude.{◌≡◌, ℕ, ◌+◌, ◌-◌, ◌%◌, ◌^◌, ◌<◌, ◌≤◌, min, List, refl}
 use Rattle.std.proofs.Common.{sym, ap, ◌∙◌, mod-lt, zero-add, arith, pow_pos, pow_mono}
 use Rattle.std.proofs.Math.Nat.{mod-add-mod}
 use Rattle.clock.specs.Wrap.{plus, minus}
@@ -9,8 +9,9 @@ use Rattle.up.specs.declared.up.Word.{Word}
 use Rattle.clock.specs.declared.appointment.Appointment.{Appointment}
 use Rattle.clock.specs.Appointment.{after_take}
 use Rattle.clock.specs.Calls.{Accepted}
+use Rattle.clock.specs.Hold.{wait_for}
 use Rattle.clock.proofs.Wrapping.{add_cancel, there}
-use Rattle.clock.proofs.Waiting.{each_tick}
+use Rattle.clock.proofs.Waiting.{each_tick, steady_wait}
 
 module _ (w reading tag : ℕ) (wide : 8 ≤ w) (narrow : w ≤ 32) (fits : reading < 2 ^ w) where
   at_once : (d e : ℕ) → plus w reading (0 + d) ≡ plus w reading (0 + e) → plus w reading d ≡ plus w reading e
@@ -45,6 +46,10 @@ up_advanced w reading tag d = λ i. record {
 
     gains : (x : ℕ) → x ≡ d + x - d
     gains x = omega arith
+
+-- the wait of a clock that gains each tick is what is left, capped at the reach
+pub up_wait : (w reading tag left : ℕ) → min left (2 ^ w - 1) ≡ wait_for (up_meaning w reading tag) left
+up_wait w reading tag left = steady_wait (up_meaning w reading tag) left (λ d. refl)
 
 -- a sample that the counter can show was accepted
 pub up_accepted : (w reading tag sample gained : ℕ) (a a' : Appointment) → reading < 2 ^ w → sample < 2 ^ w

@@ -129,6 +129,6 @@ impl<A: Alarm> Alarm for Widening<A> {
     fn hold(&mut self) -> u64 {
         let appointment = self.kept.at(Width::of(self));
         // a tick of this clock is one of the clock below
-        hold_over(&mut self.below, appointment, |left| left)
+        hold_over(&mut self.below, appointment)
     }
 }

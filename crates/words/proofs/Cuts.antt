@@ -19,6 +19,10 @@ pub cut_last : (c : ℕ) (s : List ℕ) → length s ≤ position_or_len (λ b. 
 cut_last c s h =
     slice_split_none (λ b. eqb b c) s (λ k d in_s. not-true _ (prefix_len_passes (λ b. not (eqb b c)) s k d (omega arith)))
 
+-- the words of a line are its pieces between spaces
+pub words_cut : (bs : List ℕ) → words_of bs ≡ cut 32 bs
+words_cut bs = refl
+
 -- a word, and the words behind it
 pub words_more : (line : List ℕ) (end : ℕ) (r : Option (Bor (List ℕ))) → end ≡ position_or_len (λ b. eqb b 32) line → IsGetRangeResult line (end + 1) (length line) r → words_of line ≡ take end line ∷ words_left (record { rest = r })
 words_more line end None is got =

@@ -7,5 +7,5 @@ pub returns-in-Standing : goal.returns-in-Standing
 returns-in-Standing g c steady =
     let m = g.C.Clock.meaning c.args.clock.now in
     c.min.ensures ∙ ap (λ n. min c.in-Standing.left (n - 1)) c.reach-longest.ensures
-    ∙ steady_wait m c.in-Standing.left (g.met.C.Clock.lawful c.args.clock.now) steady
+    ∙ steady_wait m c.in-Standing.left steady
     ∙ ap (hold_of m) (sym c.in-Standing.is)
