@@ -14,18 +14,31 @@ use std::io;
 use std::num::TryFromIntError;
 use std::ops::ControlFlow;
 
-pub struct Session<A: Alarm> {
-    logger: Logger<A>,
+// The logger is lent, since it is large to move.
+pub struct Session<'a, A: Alarm> {
+    logger: &'a mut Logger<A>,
     tickets: Tickets,
     // of the logger's device
     tag: u8,
 }
 
-impl<A: Alarm + Drop> Session<A>
+// Answers lines by a logger until a stack is accepted, or the input ends.
+pub(crate) fn answer_lines<A: Alarm + Drop>(
+    mut logger: Logger<A>,
+    tag: u8,
+    lines: &mut Lines,
+) -> io::Result<Option<Stack>>
 where
     A::Sample: TryFrom<u64, Error = TryFromIntError>,
 {
-    pub(crate) fn new(logger: Logger<A>, tag: u8, heap: Global) -> Session<A> {
+    Session::new(&mut logger, tag, lines.heap()).answer_lines(lines)
+}
+
+impl<'a, A: Alarm> Session<'a, A>
+where
+    A::Sample: TryFrom<u64, Error = TryFromIntError>,
+{
+    pub(crate) fn new(logger: &'a mut Logger<A>, tag: u8, heap: Global) -> Session<'a, A> {
         let tickets = Tickets::new(heap);
         Session {
             logger,
@@ -38,11 +51,11 @@ where
     pub(crate) fn answer_lines(mut self, lines: &mut Lines) -> io::Result<Option<Stack>> {
         let ended = lines.answer_each(|lines, command| self.answer(lines, command));
         let Session {
-            mut logger,
+            logger,
             tickets,
             tag: _,
         } = self;
-        tickets.settle_all(&mut logger, lines)?;
+        tickets.settle_all(logger, lines)?;
         ended
     }
 
@@ -81,10 +94,10 @@ where
                     delay,
                 } = wanted;
                 let ticket = self.logger.errand(slot, reference, delay, action)?;
-                self.tickets.keep(&mut self.logger, ticket)?;
+                self.tickets.keep(self.logger, ticket)?;
                 LoggerAnswer::Ticket(slot)
             }
-            LogCall::Settle { slot } => self.tickets.settle(&mut self.logger, slot)?,
+            LogCall::Settle { slot } => self.tickets.settle(self.logger, slot)?,
             LogCall::CallOff { slot } => LoggerAnswer::CalledOff(self.logger.call_off(slot)?),
             LogCall::Next => LoggerAnswer::Next(self.logger.next()),
         })
@@ -93,7 +106,7 @@ where
     // Loads the script that follows, all of it or nothing.
     fn load(&mut self, lines: &mut Lines) -> Result<LoggerAnswer, Failure> {
         let script = lines.script()?.ok_or(Failure::NotUnderstood)?;
-        script::load(&mut self.logger, script.as_slice())?;
+        script::load(self.logger, script.as_slice())?;
         Ok(LoggerAnswer::Loaded)
     }
 }

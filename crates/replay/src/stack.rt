@@ -4,10 +4,9 @@ use crate::command::Command;
 use crate::failure::Failure;
 use crate::layered::Layered;
 use crate::lines::Lines;
-use crate::plan::{Device, Plan, Setting};
+use crate::plan::{Device, Layer, Plan, Setting};
 use crate::sample::sample;
-use crate::session::Session;
-use crate::{call, plan};
+use crate::{call, plan, session};
 use answers::Answer;
 use clock::alarm::Alarm;
 use down::DownCounter;
@@ -42,15 +41,19 @@ impl TryFrom<Plan> for Stack {
             Device::Up { width, first } => Counter::Up(plan::up(width, first, plan.tag)?),
             Device::Down { reload, first } => Counter::Down(plan::down(reload, first, plan.tag)?),
         };
-        let settings = plan
-            .layers
-            .try_map(|layer| layer.map(Setting::try_from).transpose())?;
+        // one by one, since the library's `try_map` of an array takes it apart and puts another together
+        let [low, middle, high] = plan.layers;
+        let settings = [setting(low)?, setting(middle)?, setting(high)?];
         Ok(Stack {
             counter,
             tag: plan.tag,
             settings,
         })
     }
+}
+
+fn setting(layer: Option<Layer>) -> Result<Option<Setting>, Fault> {
+    layer.map(Setting::try_from).transpose()
 }
 
 impl Stack {
@@ -105,7 +108,7 @@ where
             Some(Turn::Logger(number, start)) => {
                 lines.print(Answer::LoggerReady)?;
                 let logger = Logger::new(self.alarm, number, start);
-                Session::new(logger, self.tag, lines.heap()).answer_lines(lines)
+                session::answer_lines(logger, self.tag, lines)
             }
         }
     }

@@ -40,14 +40,16 @@ impl Table {
 
     // The standing slot that comes due first, the lower one on a tie.
     fn earliest(&self) -> Option<Due>
-        ensures { result ≡ first (planned self.now) }
+        ensures due { result ≡ first (planned self.now) }
+        ensures size { length self.now ≡ 32 }
     {
         self.agenda.least()
     }
 
     // The slot to fire at a moment, where one is due.
     pub fn ready(&self, moment: u64) -> Option<usize>
-        ensures { result ≡ ready_slot moment self.now }
+        ensures slot { result ≡ ready_slot moment self.now }
+        ensures size { length self.now ≡ 32 }
     {
         self.earliest()
             .filter(|due| due.moment <= moment)

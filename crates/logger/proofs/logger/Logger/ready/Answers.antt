@@ -7,4 +7,4 @@ use Rattle.logger.proofs.logger.Logger.ready.Goals as goal
 pub returns : goal.returns
 returns g c =
     let l = view g.A.Clock.meaning c.args.self.now in
-    subst (Chosen l) (sym c.ready.ensures) (chosen l)
+    subst (Chosen l) (sym c.ready.ensures.slot) (chosen l)
