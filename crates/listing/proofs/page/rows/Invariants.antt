@@ -8,4 +8,4 @@ abbrev pub invariant-loop-moment : goal.invariant-loop-moment
 invariant-loop-moment l =
     let moments = iter_rest (zip_first l.moment-iterator) in
     let slots = iter_rest (zip_second l.moment-iterator) in
-    (l.page.bytes ++ rows_text moments slots ≡ l.initial.page.bytes ++ rows_text l.moments l.slots) × (length l.page.bytes + 25 * length moments ≤ 1024)
+    (l.page.bytes ++ rows_text moments slots ≡ l.initial.page.bytes ++ rows_text l.moments l.slots) × (length l.page.bytes + 25 * length moments ≤ length l.initial.page.bytes + 25 * length l.moments)
